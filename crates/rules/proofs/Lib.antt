@@ -1,0 +1,14 @@
+-- Laws of the letter rules.
+--     Mode       what asks nothing of the mode says the same under any
+--     Tree       a tree and its ways answer alike; `said (search says)` closes a rule's return
+--     Row        the cases of a byte, as the arms of a match on it
+--     Each       a fact that every case of the table has, every visit has
+--     Bound      an addition has at most two bytes, and at most three bytes are passed over
+--     Front      at place 0 a second byte is added only where a byte that stands there is passed over
+--     Local      how far a rule can see
+--     Examples   single visits and the number of cases, computed
+pub mod Mode
+pub mod Tree
+pub mod Row
+pub mod Each
+pub mod Bound

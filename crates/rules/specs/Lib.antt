@@ -1,0 +1,15 @@
+-- The letter rules as data: this is the definition.
+--     Cond       what a case may ask of a word and a place
+--     Case       a case, and the first case that holds
+--     CasesBF    the cases of B, C, D, F
+--     CasesGL    of G, H, J, K, L
+--     CasesMZ    of M, N, P, Q, R, S, T, V, W, X, Z
+--     Table      of the vowels and the bytes without a rule; the table of all, and the visit
+--     Tree       (for the proofs) rules in the shape of their code
+pub mod Cond
+pub mod Case
+pub mod CasesBF
+pub mod CasesGL
+pub mod CasesMZ
+pub mod Table
+pub mod Tree

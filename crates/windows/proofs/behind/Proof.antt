@@ -1,0 +1,13 @@
+-- `windows::behind` meets its contract: a place below 0 is no match. Assumes nothing.
+use borrow.Author.Needs.{needs}
+use borrow.Author.Tests.{le-leb, lt-leb}
+use Rattle.windows.proofs.behind.Statement.{statement}
+use Rattle.windows.proofs.behind.Tie as tie
+
+pub behind-spec : {M : Type 1} → statement M
+behind-spec =
+    tie.close
+    (tie.spec
+    (λ c. simp (lt-leb _ _ (c .if1 .taken)))
+    (λ c κs. search needs)
+    (λ c. simp (le-leb _ _ (c .before .if1 .left)) (c .contains .ensures)))

@@ -1,0 +1,15 @@
+-- `windows::capital` meets its contract: its test is the one of `up`. Assumes nothing.
+use native.Mathlib.Omega.{arith}
+use Rattle.windows.specs.Text.{up}
+use Rattle.windows.proofs.Facts.{small-letter}
+use Rattle.windows.proofs.capital.Statement.{statement}
+use Rattle.windows.proofs.capital.Tie as tie
+
+pub capital-spec : {M : Type 1} → statement M
+unfolding up
+capital-spec =
+    tie.close
+    (tie.spec
+    (λ c. omega (arith, small-letter (c .before .args .b) (c .if1 .taken)))
+    (λ c. simp (c .if1 .taken))
+    (λ c. simp (c .if1 .left)))

@@ -1,0 +1,12 @@
+-- `windows::rear` meets its contract: the end of the word is its length. Assumes nothing.
+use borrow.Author.Needs.{needs}
+use Rattle.windows.proofs.Facts.{length-upper}
+use Rattle.windows.proofs.rear.Statement.{statement}
+use Rattle.windows.proofs.rear.Tie as tie
+
+pub rear-spec : {M : Type 1} → statement M
+rear-spec =
+    tie.close
+    (tie.spec
+    (λ c κs. search needs)
+    (λ c. simp length-upper (c .behind .ensures)))

@@ -1,0 +1,28 @@
+-- Bytes, texts and letter case: what a reader of the Rust's capitals sees in the lent bytes. `up-keeps` and `length-upper`
+-- (proofs/Facts.antt) make it worth believing: nothing but a letter's case changes, and no place moves.
+use Prim.Native.Nat.{ℕ, _-_}
+use Prim.Native.Char.{code}
+use Prim.Native.String.{String}
+use mathlib.Core.Bool.{Bool, true, false, cond, _&&_}
+use mathlib.Core.List.{List, [], _∷_, map}
+use lib.Dec.{leb, eqb}
+
+-- the bytes of an ASCII text
+abbrev pub bytes : String → List ℕ
+bytes String.[] = []
+bytes (String._∷_ c s) = code c ∷ bytes s
+
+-- a letter a to z counts as A to Z; any other byte is itself
+unfoldable pub up : ℕ → ℕ
+up b = cond (leb 97 b && leb b 122) (b - 32) b
+
+unfoldable pub upper : List ℕ → List ℕ
+unfolding up
+upper w = map up w
+
+-- the two lists are equal, as a test
+unfoldable pub same : List ℕ → List ℕ → Bool
+same [] [] = true
+same [] (y ∷ ys) = false
+same (x ∷ xs) [] = false
+same (x ∷ xs) (y ∷ ys) = eqb x y && same xs ys

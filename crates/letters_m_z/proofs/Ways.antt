@@ -1,0 +1,38 @@
+-- Each letter's cases are the ways through its tree, by computation. Assumes nothing.
+use mathlib.Core.Path.{_≡_, refl}
+use mathlib.Core.Option.{none}
+use Rattle.rules.specs.CasesMZ.{casesM, casesP, casesR, casesS, casesT, casesW, casesX, casesZ}
+use Rattle.rules.specs.Tree.{ways}
+use Rattle.letters_m_z.specs.Trees.{treeM, treeP, treeR, treeS, treeSH, treeSIO, treeSCH, treeSC, treeSLast, treeSNext, treeT, treeW, treeFirstW, treeX, treeXLater, treeZ, treeZOther}
+
+pub ways-M : ways none treeM ≡ casesM
+unfolding ways treeM casesM
+ways-M = refl
+
+pub ways-P : ways none treeP ≡ casesP
+unfolding ways treeP casesP
+ways-P = refl
+
+pub ways-R : ways none treeR ≡ casesR
+unfolding ways treeR casesR
+ways-R = refl
+
+pub ways-S : ways none treeS ≡ casesS
+unfolding ways treeS treeSH treeSIO treeSCH treeSC treeSLast treeSNext casesS
+ways-S = refl
+
+pub ways-T : ways none treeT ≡ casesT
+unfolding ways treeT casesT
+ways-T = refl
+
+pub ways-W : ways none treeW ≡ casesW
+unfolding ways treeW treeFirstW casesW
+ways-W = refl
+
+pub ways-X : ways none treeX ≡ casesX
+unfolding ways treeX treeXLater casesX
+ways-X = refl
+
+pub ways-Z : ways none treeZ ≡ casesZ
+unfolding ways treeZ treeZOther casesZ
+ways-Z = refl

@@ -1,0 +1,15 @@
+-- `letters_m_z::r::is_rogier` meets its contract: its expression is the condition. Assumes nothing.
+use mathlib.Core.Path.{refl}
+use Rattle.rules.specs.Cond.{holds}
+use Rattle.letters_m_z.proofs.r.is_rogier.Statement.{statement}
+use Rattle.letters_m_z.proofs.r.is_rogier.Tie as tie
+
+pub is-rogier-spec : {M : Type 1} → statement M
+unfolding holds
+is-rogier-spec =
+    tie.close
+    (tie.spec
+    (λ c κs. tt)
+    (λ c. refl) (λ c κs. tt)
+    (λ c. refl) (λ c κs. tt)
+    (λ c. cc))

@@ -1,0 +1,16 @@
+-- `letters_m_z::w::is_arnow` meets its contract: its expression is the condition. Assumes nothing.
+use mathlib.Core.Path.{refl}
+use Rattle.rules.specs.Cond.{holds}
+use Rattle.letters_m_z.proofs.w.is_arnow.Statement.{statement}
+use Rattle.letters_m_z.proofs.w.is_arnow.Tie as tie
+
+pub is-arnow-spec : {M : Type 1} → statement M
+unfolding holds
+is-arnow-spec =
+    tie.close
+    (tie.spec
+    (λ c κs. tt)
+    (λ c κs. tt)
+    (λ c. refl) (λ c κs. tt)
+    (λ c. refl) (λ c κs. tt)
+    (λ c. cc))

@@ -1,0 +1,14 @@
+-- `letters_m_z::w::is_first_w` meets its contract: its expression is the condition. Assumes nothing.
+use mathlib.Core.Path.{refl}
+use Rattle.rules.specs.Cond.{holds}
+use Rattle.letters_m_z.proofs.w.is_first_w.Statement.{statement}
+use Rattle.letters_m_z.proofs.w.is_first_w.Tie as tie
+
+pub is-first-w-spec : {M : Type 1} → statement M
+unfolding holds
+is-first-w-spec =
+    tie.close
+    (tie.spec
+    (λ c κs. tt)
+    (λ c. refl) (λ c κs. tt)
+    (λ c. cc))

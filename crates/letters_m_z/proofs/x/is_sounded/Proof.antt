@@ -1,0 +1,15 @@
+-- `letters_m_z::x::is_sounded` meets its contract: its expression is the condition. Assumes nothing.
+use mathlib.Core.Path.{refl}
+use Rattle.rules.specs.Cond.{holds}
+use Rattle.letters_m_z.proofs.x.is_sounded.Statement.{statement}
+use Rattle.letters_m_z.proofs.x.is_sounded.Tie as tie
+
+pub is-sounded-spec : {M : Type 1} → statement M
+unfolding holds
+is-sounded-spec =
+    tie.close
+    (tie.spec
+    (λ c κs. tt)
+    (λ c. refl) (λ c κs. tt)
+    (λ c. refl) (λ c κs. tt)
+    (λ c. cc))

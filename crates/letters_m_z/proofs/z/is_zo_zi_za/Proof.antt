@@ -1,0 +1,14 @@
+-- `letters_m_z::z::is_zo_zi_za` meets its contract: its expression is the condition. Assumes nothing.
+use mathlib.Core.Path.{refl}
+use Rattle.rules.specs.Cond.{holds}
+use Rattle.letters_m_z.proofs.z.is_zo_zi_za.Statement.{statement}
+use Rattle.letters_m_z.proofs.z.is_zo_zi_za.Tie as tie
+
+pub is-zo-zi-za-spec : {M : Type 1} → statement M
+unfolding holds
+is-zo-zi-za-spec =
+    tie.close
+    (tie.spec
+    (λ c. refl) (λ c κs. tt)
+    (λ c κs. tt)
+    (λ c. cc))

@@ -1,0 +1,85 @@
+-- For the proofs: the trees of M, P, R, S, T, W, X and Z, which follow the code branch by branch. proofs/Ways.antt shows that
+-- their ways are the cases of the definition.
+use Prim.Native.String.{String}
+use mathlib.Core.List.{List, [], _∷_}
+use Rattle.rules.specs.Cond.{Cond, window, vowel, place, slavo, non, ahead}
+use Rattle.rules.specs.CasesBF.{next}
+use Rattle.rules.specs.CasesMZ.{conditionM0, rogier, island, sugar, SH, germanicSH, SIO, smith, SC, SCH, school, schenker, firstSCH, artois, nextSZ, TION, TH, thomas, firstW, arnow, breaux, nextCX, zoZiZa}
+use Rattle.rules.specs.Tree.{Tree, say, ask, over}
+
+unfoldable pub treeM : Tree
+treeM = over conditionM0 "M" "M"
+
+unfoldable pub treeP : Tree
+treeP =
+    ask (next "H") (say "F" "F" 1)
+    (over (window (ahead 1) 1 ("P" ∷ "B" ∷ [])) "P" "P")
+
+unfoldable pub treeR : Tree
+treeR = ask rogier (over (next "R") "" "R") (over (next "R") "R" "R")
+
+unfoldable pub treeSH : Tree
+treeSH = ask germanicSH (say "S" "S" 1) (say "X" "X" 1)
+
+unfoldable pub treeSIO : Tree
+treeSIO = ask slavo (say "S" "S" 2) (say "S" "X" 2)
+
+unfoldable pub treeSCH : Tree
+treeSCH =
+    ask school
+    (ask schenker (say "X" "SK" 2) (say "SK" "SK" 2))
+    (ask firstSCH (say "X" "S" 2)
+    (say "X" "X" 2))
+
+unfoldable pub treeSC : Tree
+treeSC =
+    ask SCH treeSCH
+    (ask (window (ahead 2) 1 ("I" ∷ "E" ∷ "Y" ∷ [])) (say "S" "S" 2)
+    (say "SK" "SK" 2))
+
+unfoldable pub treeSLast : Tree
+treeSLast = ask artois (over nextSZ "" "S") (over nextSZ "S" "S")
+
+unfoldable pub treeSNext : Tree
+treeSNext =
+    ask smith (over (window (ahead 1) 1 ("Z" ∷ [])) "S" "X")
+    (ask SC treeSC
+    treeSLast)
+
+unfoldable pub treeS : Tree
+treeS =
+    ask island (say "" "" 0)
+    (ask sugar (say "X" "S" 0)
+    (ask SH treeSH
+    (ask SIO treeSIO
+    treeSNext)))
+
+unfoldable pub treeT : Tree
+treeT =
+    ask TION (say "X" "X" 2)
+    (ask TH
+    (ask thomas (say "T" "T" 1) (say "0" "T" 1))
+    (over (window (ahead 1) 1 ("T" ∷ "D" ∷ [])) "T" "T"))
+
+unfoldable pub treeFirstW : Tree
+treeFirstW = ask (vowel (ahead 1)) (say "A" "F" 0) (say "A" "A" 0)
+
+unfoldable pub treeW : Tree
+treeW =
+    ask (window (ahead 0) 2 ("WR" ∷ [])) (say "R" "R" 1)
+    (ask firstW treeFirstW
+    (ask arnow (say "" "F" 0)
+    (ask (window (ahead 0) 4 ("WICZ" ∷ "WITZ" ∷ [])) (say "TS" "FX" 3)
+    (say "" "" 0))))
+
+unfoldable pub treeXLater : Tree
+treeXLater = ask (non breaux) (over nextCX "KS" "KS") (over nextCX "" "")
+
+unfoldable pub treeX : Tree
+treeX = ask (place 0) (say "S" "S" 0) treeXLater
+
+unfoldable pub treeZOther : Tree
+treeZOther = ask zoZiZa (over (next "Z") "S" "TS") (over (next "Z") "S" "S")
+
+unfoldable pub treeZ : Tree
+treeZ = ask (next "H") (say "J" "J" 1) treeZOther

@@ -1,0 +1,65 @@
+// One visit: a match on the visited byte, whose promise is the definition's visit.
+use rules::Add;
+use rules::Visit;
+ghost use mathlib.Core.Path.{_≡_};
+ghost use mathlib.Core.Bool.{cond};
+ghost use Prim.Native.Nat.{_+_};
+ghost use Rattle.windows.specs.Text.{upper};
+ghost use Rattle.windows.specs.Window.{byteAt};
+ghost use Rattle.rules.specs.Cond.{marked, plain};
+ghost use Rattle.rules.specs.Case.{answer, first};
+ghost use Rattle.rules.specs.Table.{casesVowel, visit};
+ghost use Rattle.rules.specs.declared.Add.the-variants.{One};
+
+// What the byte at `at` adds to the codes and passes over; where no byte stands, nothing.
+pub fn visit_at(w: &[u8], at: usize, slavo: bool) -> Visit
+    ensures { λ r. ⌜ r ≡ visit (upper (now (w .entry))) at (marked slavo) ⌝ }
+{
+    if w.len() <= at {
+        return Visit::both(Add::Nothing, 0);
+    }
+    let b = windows::capital(w[at]);
+    match b {
+        b'A' | b'E' | b'I' | b'O' | b'U' | b'Y' => handle_vowel(w, at),
+        b'B' => handle_plain(w, at, b'B', b'P'),
+        b'C' => letters_b_f::c::handle_c(w, at),
+        b'D' => letters_b_f::d::handle_d(w, at),
+        b'F' => handle_plain(w, at, b'F', b'F'),
+        b'G' => letters_g_l::g::handle_g(w, at, slavo),
+        b'H' => letters_g_l::h::handle_h(w, at),
+        b'J' => letters_g_l::j::handle_j(w, at, slavo),
+        b'K' => handle_plain(w, at, b'K', b'K'),
+        b'L' => letters_g_l::l::handle_l(w, at),
+        b'M' => letters_m_z::m::handle_m(w, at),
+        b'N' => handle_plain(w, at, b'N', b'N'),
+        b'P' => letters_m_z::p::handle_p(w, at),
+        b'Q' => handle_plain(w, at, b'Q', b'K'),
+        b'R' => letters_m_z::r::handle_r(w, at, slavo),
+        b'S' => letters_m_z::s::handle_s(w, at, slavo),
+        b'T' => letters_m_z::t::handle_t(w, at),
+        b'V' => handle_plain(w, at, b'V', b'F'),
+        b'W' => letters_m_z::w::handle_w(w, at),
+        b'X' => letters_m_z::x::handle_x(w, at),
+        b'Z' => letters_m_z::z::handle_z(w, at, slavo),
+        0..=64 | 91..=255 => Visit::both(Add::Nothing, 0),
+    }
+}
+
+// A vowel or Y gives A at place 0 only.
+pub fn handle_vowel(w: &[u8], at: usize) -> Visit
+    ensures { λ r. ⌜ r ≡ first casesVowel (upper (now (w .entry))) at plain ⌝ }
+{
+    if at == 0 {
+        Visit::both(Add::One(b'A'), 0)
+    } else {
+        Visit::both(Add::Nothing, 0)
+    }
+}
+
+// A letter of one sound, which swallows a doubled one.
+pub fn handle_plain(w: &[u8], at: usize, letter: u8, sound: u8) -> Visit
+    ensures { λ r. ⌜ r ≡ answer (One sound) (One sound) (cond (byteAt (upper (now (w .entry))) (at + 1) letter) 1 0) ⌝ }
+{
+    let over = rules::one_if(windows::char_ahead(w, at, 1, letter));
+    Visit::both(Add::One(sound), over)
+}

@@ -16,16 +16,11 @@ use Rattle.rules.specs.CasesBF.{swallows, casesC, casesD}
 use Rattle.rules.specs.CasesGL.{casesG, casesH, casesJ, casesL}
 use Rattle.rules.specs.CasesMZ.{casesM, casesP, casesR, casesS, casesT, casesW, casesX, casesZ}
 use Rattle.rules.specs.Table.{casesVowel, casesRest, rows, casesIn, visit}
+use Rattle.rules.specs.Kept.{bytesOf, Short}
 use Rattle.rules.specs.declared.Add.{Add}
 use Rattle.rules.specs.declared.Add.the-variants.{Nothing, One, Two}
 use Rattle.rules.specs.declared.Visit.{Visit}
 use Rattle.rules.proofs.Each.{everyRow, row-passes, every}
-
--- the bytes of an addition
-abbrev pub bytesOf : Add → List ℕ
-bytesOf Nothing = []
-bytesOf (One a) = a ∷ []
-bytesOf (Two a b) = a ∷ b ∷ []
 
 -- a text of at most two bytes is added whole
 pub added-whole : (s : List ℕ) → length s ≤ 2 → bytesOf (added s) ≡ s
@@ -44,7 +39,7 @@ unfolding rows swallows casesC casesD casesG casesH casesJ casesL casesM casesP 
 texts-short b = row-passes (every short) rows b refl
 
 -- ---- what that says of a visit
-pub add-short : (a : Add) → length (bytesOf a) ≤ 2
+add-short : (a : Add) → length (bytesOf a) ≤ 2
 add-short Nothing = omega arith
 add-short (One a) = omega arith
 add-short (Two a b) = omega arith
@@ -62,6 +57,11 @@ over-first (c ∷ cs) e u p m =
     let j = both (leb (length (bytes (c .alternate))) 2) _ (k .1) in
     over-chosen (holds (c .when) u p m) (gives c) (first cs u p m) (leb-true _ _ (j .1)) (over-first cs (h .1) u p m)
 
-pub over-three : (u : List ℕ) (p : ℕ) (m : Mode) → visit u p m .over ≤ 3
+pub visit-short : (u : List ℕ) (p : ℕ) (m : Mode) → Short (visit u p m)
 unfolding visit
-over-three u p m = over-first (casesIn rows (getD u p 0)) (texts-short (getD u p 0)) u p m
+visit-short u p m =
+    record {
+      primary = add-short (visit u p m .primary);
+      alternate = add-short (visit u p m .alternate);
+      over = over-first (casesIn rows (getD u p 0)) (texts-short (getD u p 0)) u p m
+    }

@@ -12,3 +12,4 @@ pub mod Tree
 pub mod Row
 pub mod Each
 pub mod Bound
+pub mod Front

@@ -5,6 +5,7 @@
 --     CasesGL    of G, H, J, K, L
 --     CasesMZ    of M, N, P, Q, R, S, T, V, W, X, Z
 --     Table      of the vowels and the bytes without a rule; the table of all, and the visit
+--     Kept       what every visit keeps: short additions, and at place 0 shorter ones
 --     Tree       (for the proofs) rules in the shape of their code
 pub mod Cond
 pub mod Case
@@ -12,4 +13,5 @@ pub mod CasesBF
 pub mod CasesGL
 pub mod CasesMZ
 pub mod Table
+pub mod Kept
 pub mod Tree

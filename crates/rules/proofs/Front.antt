@@ -15,7 +15,7 @@ use lib.ListN.{length, getD, take, drop}
 use lib.Seq.{getD-take, getD-drop}
 use Rattle.windows.specs.Text.{bytes, same}
 use Rattle.windows.specs.Window.{isAt, sees, byteAt, vowelAt}
-use Rattle.windows.proofs.Facts.{both, same-true, isAt-true}
+use Rattle.windows.proofs.Facts.{both, either, same-true, isAt-true}
 use Rattle.rules.specs.Cond.{Spot, ahead, back, front, rear, Cond, Mode, always, window, byte, vowel, place, past, below, left, long, slavo, non, _&_, _or_, at, holds}
 use Rattle.rules.specs.Case.{Case, added, gives, first}
 use Rattle.rules.specs.CasesBF.{swallows, casesC, casesD}
@@ -25,11 +25,6 @@ use Rattle.rules.specs.Table.{casesVowel, casesRest, rows, casesIn, visi
 use Rattle.rules.specs.Kept.{bytesOf, AtFront}
 use Rattle.rules.specs.declared.Visit.{Visit}
 use Rattle.rules.proofs.Each.{everyRow, row-passes}
-
--- ---- either of two tests
-either : (a b : Bool) → (a || b) ≡ true → (Q : Type 0) → (a ≡ true → Q) → (b ≡ true → Q) → Q
-either true b e Q f g = f refl
-either false b e Q f g = g e
 
 -- ---- what a condition surely answers at place 0
 abbrev before : Spot → Bool

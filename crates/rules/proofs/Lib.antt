@@ -13,3 +13,4 @@ pub mod Row
 pub mod Each
 pub mod Bound
 pub mod Front
+pub mod Local

@@ -22,6 +22,11 @@ pub both : (a b : Bool) → (a && b) ≡ true → (a ≡ true) × (b ≡ true)
 both true b e = (refl, e)
 both false b e = absurd (let z : _≡_ {A = ℕ} 0 1 = cc e in omega arith)
 
+-- and of one that is an `||`
+pub either : (a b : Bool) → (a || b) ≡ true → (Q : Type 0) → (a ≡ true → Q) → (b ≡ true → Q) → Q
+either true b e Q f g = f refl
+either false b e Q f g = g e
+
 -- a small letter has a capital 32 below it
 pub small-letter : (b : ℕ) → (leb 97 b && leb b 122) ≡ true → 97 ≤ b
 small-letter b e = leb-true 97 b (both (leb 97 b) (leb b 122) e .0)

@@ -14,3 +14,4 @@ pub mod Each
 pub mod Bound
 pub mod Front
 pub mod Local
+pub mod Examples

@@ -8,7 +8,8 @@ ghost use Rattle.windows.specs.Text.{upper};
 ghost use Rattle.windows.specs.Window.{byteAt};
 ghost use Rattle.rules.specs.Cond.{marked, plain};
 ghost use Rattle.rules.specs.Case.{answer, first};
-ghost use Rattle.rules.specs.Table.{casesVowel, visit};
+ghost use Rattle.rules.specs.Plain.{casesVowel};
+ghost use Rattle.rules.specs.Table.{visit};
 ghost use Rattle.rules.specs.declared.Add.the-variants.{One};
 
 // What the byte at `at` adds to the codes and passes over; where no byte stands, nothing.
@@ -22,20 +23,20 @@ pub fn visit_at(w: &[u8], at: usize, slavo: bool) -> Visit
     match b {
         b'A' | b'E' | b'I' | b'O' | b'U' | b'Y' => handle_vowel(w, at),
         b'B' => handle_plain(w, at, b'B', b'P'),
-        b'C' => letters_b_f::c::handle_c(w, at),
-        b'D' => letters_b_f::d::handle_d(w, at),
+        b'C' => letters_c::handle_c(w, at),
+        b'D' => letters_d_l::d::handle_d(w, at),
         b'F' => handle_plain(w, at, b'F', b'F'),
-        b'G' => letters_g_l::g::handle_g(w, at, slavo),
-        b'H' => letters_g_l::h::handle_h(w, at),
-        b'J' => letters_g_l::j::handle_j(w, at, slavo),
+        b'G' => letters_g::handle_g(w, at, slavo),
+        b'H' => letters_d_l::h::handle_h(w, at),
+        b'J' => letters_d_l::j::handle_j(w, at, slavo),
         b'K' => handle_plain(w, at, b'K', b'K'),
-        b'L' => letters_g_l::l::handle_l(w, at),
+        b'L' => letters_d_l::l::handle_l(w, at),
         b'M' => letters_m_z::m::handle_m(w, at),
         b'N' => handle_plain(w, at, b'N', b'N'),
         b'P' => letters_m_z::p::handle_p(w, at),
         b'Q' => handle_plain(w, at, b'Q', b'K'),
         b'R' => letters_m_z::r::handle_r(w, at, slavo),
-        b'S' => letters_m_z::s::handle_s(w, at, slavo),
+        b'S' => letters_s::handle_s(w, at, slavo),
         b'T' => letters_m_z::t::handle_t(w, at),
         b'V' => handle_plain(w, at, b'V', b'F'),
         b'W' => letters_m_z::w::handle_w(w, at),

@@ -1,9 +1,9 @@
 -- Each letter's cases are the ways through its tree, by computation. Assumes nothing.
 use mathlib.Core.Path.{_≡_, refl}
 use mathlib.Core.Option.{none}
-use Rattle.rules.specs.CasesMZ.{casesM, casesP, casesR, casesS, casesT, casesW, casesX, casesZ}
+use Rattle.rules.specs.CasesMZ.{casesM, casesP, casesR, casesT, casesW, casesX, casesZ}
 use Rattle.rules.specs.Tree.{ways}
-use Rattle.letters_m_z.specs.Trees.{treeM, treeP, treeR, treeS, treeSH, treeSIO, treeSCH, treeSC, treeSLast, treeSNext, treeT, treeW, treeFirstW, treeX, treeXLater, treeZ, treeZOther}
+use Rattle.letters_m_z.specs.Trees.{treeM, treeP, treeR, treeT, treeFirstW, treeW, treeXLater, treeX, treeZOther, treeZ}
 
 pub ways-M : ways none treeM ≡ casesM
 unfolding ways treeM casesM
@@ -16,10 +16,6 @@ ways-P = refl
 pub ways-R : ways none treeR ≡ casesR
 unfolding ways treeR casesR
 ways-R = refl
-
-pub ways-S : ways none treeS ≡ casesS
-unfolding ways treeS treeSH treeSIO treeSCH treeSC treeSLast treeSNext casesS
-ways-S = refl
 
 pub ways-T : ways none treeT ≡ casesT
 unfolding ways treeT casesT

@@ -1,10 +1,9 @@
--- For the proofs: the trees of M, P, R, S, T, W, X and Z, which follow the code branch by branch. proofs/Ways.antt shows that
--- their ways are the cases of the definition.
-use Prim.Native.String.{String}
-use mathlib.Core.List.{List, [], _∷_}
-use Rattle.rules.specs.Cond.{Cond, window, vowel, place, slavo, non, ahead}
-use Rattle.rules.specs.CasesBF.{next}
-use Rattle.rules.specs.CasesMZ.{conditionM0, rogier, island, sugar, SH, germanicSH, SIO, smith, SC, SCH, school, schenker, firstSCH, artois, nextSZ, TION, TH, thomas, firstW, arnow, breaux, nextCX, zoZiZa}
+-- For the proofs: the trees of M, P, R, T, W, X and Z, which follow the code branch by branch. proofs/Ways.antt shows that their ways are the
+-- cases of the definition.
+use mathlib.Core.List.{[], _∷_}
+use Rattle.rules.specs.Cond.{window, vowel, place, non, ahead}
+use Rattle.rules.specs.Plain.{next}
+use Rattle.rules.specs.CasesMZ.{conditionM0, rogier, TION, TH, thomas, firstW, arnow, breaux, nextCX, zoZiZa}
 use Rattle.rules.specs.Tree.{Tree, say, ask, over}
 
 unfoldable pub treeM : Tree
@@ -17,42 +16,6 @@ treeP =
 
 unfoldable pub treeR : Tree
 treeR = ask rogier (over (next "R") "" "R") (over (next "R") "R" "R")
-
-unfoldable pub treeSH : Tree
-treeSH = ask germanicSH (say "S" "S" 1) (say "X" "X" 1)
-
-unfoldable pub treeSIO : Tree
-treeSIO = ask slavo (say "S" "S" 2) (say "S" "X" 2)
-
-unfoldable pub treeSCH : Tree
-treeSCH =
-    ask school
-    (ask schenker (say "X" "SK" 2) (say "SK" "SK" 2))
-    (ask firstSCH (say "X" "S" 2)
-    (say "X" "X" 2))
-
-unfoldable pub treeSC : Tree
-treeSC =
-    ask SCH treeSCH
-    (ask (window (ahead 2) 1 ("I" ∷ "E" ∷ "Y" ∷ [])) (say "S" "S" 2)
-    (say "SK" "SK" 2))
-
-unfoldable pub treeSLast : Tree
-treeSLast = ask artois (over nextSZ "" "S") (over nextSZ "S" "S")
-
-unfoldable pub treeSNext : Tree
-treeSNext =
-    ask smith (over (window (ahead 1) 1 ("Z" ∷ [])) "S" "X")
-    (ask SC treeSC
-    treeSLast)
-
-unfoldable pub treeS : Tree
-treeS =
-    ask island (say "" "" 0)
-    (ask sugar (say "X" "S" 0)
-    (ask SH treeSH
-    (ask SIO treeSIO
-    treeSNext)))
 
 unfoldable pub treeT : Tree
 treeT =

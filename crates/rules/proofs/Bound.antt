@@ -11,16 +11,19 @@ use lib.ListN.{getD, length}
 use Rattle.windows.specs.Text.{bytes}
 use Rattle.windows.proofs.Facts.{both}
 use Rattle.rules.specs.Cond.{Mode, holds}
-use Rattle.rules.specs.Case.{Case, added, adds, gives, first}
-use Rattle.rules.specs.CasesBF.{swallows, casesC, casesD}
-use Rattle.rules.specs.CasesGL.{casesG, casesH, casesJ, casesL}
-use Rattle.rules.specs.CasesMZ.{casesM, casesP, casesR, casesS, casesT, casesW, casesX, casesZ}
-use Rattle.rules.specs.Table.{casesVowel, casesRest, rows, casesIn, visit}
+use Rattle.rules.specs.Case.{Case, added, gives, first}
+use Rattle.rules.specs.Plain.{swallows, casesVowel, casesRest}
+use Rattle.rules.specs.CasesC.{casesC}
+use Rattle.rules.specs.CasesDL.{casesD, casesH, casesJ, casesL}
+use Rattle.rules.specs.CasesG.{casesG}
+use Rattle.rules.specs.CasesMZ.{casesM, casesP, casesR, casesT, casesW, casesX, casesZ}
+use Rattle.rules.specs.CasesS.{casesS}
+use Rattle.rules.specs.Table.{rows, casesIn, visit}
 use Rattle.rules.specs.Kept.{bytesOf, Short}
 use Rattle.rules.specs.declared.Add.{Add}
 use Rattle.rules.specs.declared.Add.the-variants.{Nothing, One, Two}
 use Rattle.rules.specs.declared.Visit.{Visit}
-use Rattle.rules.proofs.Each.{everyRow, row-passes, every}
+use Rattle.rules.proofs.Each.{row-passes, every}
 
 -- a text of at most two bytes is added whole
 pub added-whole : (s : List ℕ) → length s ≤ 2 → bytesOf (added s) ≡ s
@@ -63,5 +66,5 @@ visit-short u p m =
     record {
       primary = add-short (visit u p m .primary);
       alternate = add-short (visit u p m .alternate);
-      over = over-first (casesIn rows (getD u p 0)) (texts-short (getD u p 0)) u p m
+      over = over-first (casesIn rows (getD u p 0)) (texts-short (getD u p 0)) u p m;
     }

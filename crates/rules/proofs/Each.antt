@@ -4,12 +4,12 @@ use Prim.Native.Nat.{ℕ}
 use mathlib.Core.Bool.{Bool, true, false, cond, _&&_}
 use mathlib.Core.List.{List, [], _∷_}
 use mathlib.Core.Path.{_≡_}
-use lib.ListN.{getD}
 use Rattle.windows.specs.Text.{bytes}
 use Rattle.windows.specs.Window.{among}
 use Rattle.windows.proofs.Facts.{both}
 use Rattle.rules.specs.Case.{Case}
-use Rattle.rules.specs.Table.{casesRest, Row, casesIn}
+use Rattle.rules.specs.Plain.{casesRest}
+use Rattle.rules.specs.Table.{Row, casesIn}
 
 -- the test of a list of cases passes at each row, and at the rest
 abbrev pub everyRow : (List Case → Bool) → List Row → Bool

@@ -2,7 +2,7 @@
 -- cases, letter by letter. Assumes nothing.
 use Prim.Native.Nat.{ℕ, _+_}
 use Prim.Native.String.{String}
-use mathlib.Core.Bool.{Bool, true, false, cond}
+use mathlib.Core.Bool.{Bool, true, false}
 use mathlib.Core.List.{List, [], _∷_, map}
 use mathlib.Core.Path.{_≡_, refl}
 use lib.ListN.{length}
@@ -10,10 +10,13 @@ use Rattle.windows.specs.Text.{bytes, up, upper, same}
 use Rattle.windows.specs.Window.{isAt, sees, byteAt, vowel, vowelAt, endsAfter, isLong}
 use Rattle.rules.specs.Cond.{marked, holds}
 use Rattle.rules.specs.Case.{adds, first}
-use Rattle.rules.specs.CasesBF.{swallows, casesC, casesD}
-use Rattle.rules.specs.CasesGL.{casesG, casesH, casesJ, casesL}
-use Rattle.rules.specs.CasesMZ.{casesM, casesP, casesR, casesS, casesT, casesW, casesX, casesZ}
-use Rattle.rules.specs.Table.{casesVowel, casesRest, Row, rows, casesIn, visit}
+use Rattle.rules.specs.Plain.{swallows, casesVowel, casesRest}
+use Rattle.rules.specs.CasesC.{casesC}
+use Rattle.rules.specs.CasesDL.{casesD, casesH, casesJ, casesL}
+use Rattle.rules.specs.CasesG.{casesG}
+use Rattle.rules.specs.CasesMZ.{casesM, casesP, casesR, casesT, casesW, casesX, casesZ}
+use Rattle.rules.specs.CasesS.{casesS}
+use Rattle.rules.specs.Table.{Row, rows, casesIn, visit}
 use Rattle.rules.specs.declared.Visit.{Visit}
 
 -- a word, a place in it, the word's Slavo-Germanic mark, and what the visit there adds to each code and passes over

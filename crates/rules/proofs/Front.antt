@@ -1,9 +1,8 @@
 -- At place 0 a second byte is added only where a byte that stands in the word is passed over: a test that antt computes over the
 -- table, and the law that carries it to each visit at place 0. The test goes down a list of cases: a case is passed by where it
 -- never holds at place 0, or where an earlier one holds with it; it ends at a case that always holds there. Assumes nothing.
-use Prim.Native.Char.{Char, code}
-use Prim.Native.Nat.{ℕ, zero, suc, _+_, _-_, _≤_, _<_, min, max}
-use Prim.Native.String.{String}
+use Prim.Native.Char.{code}
+use Prim.Native.Nat.{ℕ, zero, suc, _+_, _-_, _≤_, min, max}
 use mathlib.Core.Bool.{Bool, true, false, false≢true, cond, not, _&&_, _||_, and-false, or-true}
 use mathlib.Core.List.{List, [], _∷_, map}
 use mathlib.Core.Path.{_≡_, refl, sym, ap, _∙_}
@@ -11,20 +10,22 @@ use native.Mathlib.Nat.{add-zero, zero-add}
 use native.Mathlib.Omega.{arith}
 use borrow.Author.Tests.{leb-true, ltb-true, eqb-true, eq-eqb, ne-eqb, lt-ltb, le-ltb, lt-leb}
 use lib.Dec.{leb, ltb, eqb}
-use lib.ListN.{length, getD, take, drop}
+use lib.ListN.{length, getD, drop}
 use lib.Seq.{getD-take, getD-drop}
 use Rattle.windows.specs.Text.{bytes, same}
 use Rattle.windows.specs.Window.{isAt, sees, byteAt, vowelAt}
 use Rattle.windows.proofs.Facts.{both, either, same-true, isAt-true}
 use Rattle.rules.specs.Cond.{Spot, ahead, back, front, rear, Cond, Mode, always, window, byte, vowel, place, past, below, left, long, slavo, non, _&_, _or_, at, holds}
 use Rattle.rules.specs.Case.{Case, added, gives, first}
-use Rattle.rules.specs.CasesBF.{swallows, casesC, casesD}
-use Rattle.rules.specs.CasesGL.{casesG, casesH, casesJ, casesL}
-use Rattle.rules.specs.CasesMZ.{casesM, casesP, casesR, casesS, casesT, casesW, casesX, casesZ}
-use Rattle.rules.specs.Table.{casesVowel, casesRest, rows, casesIn, visit}
+use Rattle.rules.specs.Plain.{swallows, casesVowel, casesRest}
+use Rattle.rules.specs.CasesC.{casesC}
+use Rattle.rules.specs.CasesDL.{casesD, casesH, casesJ, casesL}
+use Rattle.rules.specs.CasesG.{casesG}
+use Rattle.rules.specs.CasesMZ.{casesM, casesP, casesR, casesT, casesW, casesX, casesZ}
+use Rattle.rules.specs.CasesS.{casesS}
+use Rattle.rules.specs.Table.{rows, casesIn, visit}
 use Rattle.rules.specs.Kept.{bytesOf, AtFront}
-use Rattle.rules.specs.declared.Visit.{Visit}
-use Rattle.rules.proofs.Each.{everyRow, row-passes}
+use Rattle.rules.proofs.Each.{row-passes}
 
 -- ---- what a condition surely answers at place 0
 abbrev before : Spot → Bool

@@ -16,10 +16,13 @@ use Rattle.windows.proofs.Facts.{both, either}
 use Rattle.rules.specs.Agree.{Agree}
 use Rattle.rules.specs.Cond.{Spot, ahead, back, front, rear, Cond, Mode, always, window, byte, vowel as vowelThere, place, past, below, left, long, slavo, non, _&_, _or_, at, holds}
 use Rattle.rules.specs.Case.{Case, gives, first}
-use Rattle.rules.specs.CasesBF.{swallows, casesC, casesD}
-use Rattle.rules.specs.CasesGL.{casesG, casesH, casesJ, casesL}
-use Rattle.rules.specs.CasesMZ.{casesM, casesP, casesR, casesS, casesT, casesW, casesX, casesZ}
-use Rattle.rules.specs.Table.{casesVowel, casesRest, rows, casesIn, visit}
+use Rattle.rules.specs.Plain.{swallows, casesVowel, casesRest}
+use Rattle.rules.specs.CasesC.{casesC}
+use Rattle.rules.specs.CasesDL.{casesD, casesH, casesJ, casesL}
+use Rattle.rules.specs.CasesG.{casesG}
+use Rattle.rules.specs.CasesMZ.{casesM, casesP, casesR, casesT, casesW, casesX, casesZ}
+use Rattle.rules.specs.CasesS.{casesS}
+use Rattle.rules.specs.Table.{rows, casesIn, visit}
 use Rattle.rules.specs.declared.Visit.{Visit}
 use Rattle.rules.proofs.Each.{row-passes, every}
 

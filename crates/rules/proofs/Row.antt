@@ -6,17 +6,17 @@ use Prim.Native.String.{String}
 use mathlib.Core.Path.{_≡_, refl, sym, ap, _∙_}
 use mathlib.Core.Bool.{Bool, true, false, cond}
 use mathlib.Core.List.{List, [], _∷_}
-use types.Run.{OneOf}
 use lib.ListN.{length, getD, List·getD-eq-default}
 use Rattle.windows.specs.Text.{bytes, up, upper}
-use Rattle.windows.specs.Window.{among, byteAt}
+use Rattle.windows.specs.Window.{byteAt}
 use Rattle.windows.proofs.Facts.{getD-upper, among-yes, among-no}
 use Rattle.rules.specs.Cond.{Mode, plain, holds}
 use Rattle.rules.specs.Case.{Case, adds, first}
-use Rattle.rules.specs.CasesBF.{swallows}
-use Rattle.rules.specs.Table.{casesVowel, casesRest, Row, rows, casesIn, visit}
+use Rattle.rules.specs.Plain.{swallows, casesVowel, casesRest}
+use Rattle.rules.specs.Table.{Row, rows, casesIn, visit}
 use Rattle.rules.specs.declared.Visit.{Visit}
 use Rattle.rules.proofs.Mode.{freeCases, free-first}
+use types.Run.{OneOf}
 
 -- ---- the cases of a byte
 -- the byte is a key of no row: what the last arm of a match knows, with what it knew before in front

@@ -2,7 +2,7 @@
 -- bytes are passed over (document 01, "What is carried over"). A visit is the first case that holds.
 use Prim.Native.Nat.{ℕ}
 use Prim.Native.String.{String}
-use mathlib.Core.Bool.{Bool, cond}
+use mathlib.Core.Bool.{cond}
 use mathlib.Core.List.{List, [], _∷_}
 use Rattle.windows.specs.Text.{bytes}
 use Rattle.rules.specs.Cond.{Cond, Mode, holds}

@@ -12,7 +12,6 @@ use Rattle.windows.specs.Window.{sees, byteAt, vowelAt, stepBack, fromRear, end
 
 infixl 40 _&_
 infixl 30 _or_
-
 -- where a test looks: `k` bytes ahead of the visited place, `k` bytes back, `k` bytes from the word's front, `k` before its end
 pub data Spot : Type 0 where
   ahead : (k : ℕ) → Spot

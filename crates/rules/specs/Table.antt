@@ -2,25 +2,20 @@
 -- and the visit that it defines.
 use Prim.Native.Nat.{ℕ}
 use Prim.Native.String.{String}
-use mathlib.Core.Bool.{Bool, cond}
+use mathlib.Core.Bool.{cond}
 use mathlib.Core.List.{List, [], _∷_}
 use lib.ListN.{getD}
 use Rattle.windows.specs.Text.{bytes}
 use Rattle.windows.specs.Window.{among}
-use Rattle.rules.specs.Cond.{Mode, always, place}
-use Rattle.rules.specs.Case.{Case, case, first}
-use Rattle.rules.specs.CasesBF.{casesB, casesC, casesD, casesF}
-use Rattle.rules.specs.CasesGL.{casesG, casesH, casesJ, casesK, casesL}
-use Rattle.rules.specs.CasesMZ.{casesM, casesN, casesP, casesQ, casesR, casesS, casesT, casesV, casesW, casesX, casesZ}
+use Rattle.rules.specs.Cond.{Mode}
+use Rattle.rules.specs.Case.{Case, first}
+use Rattle.rules.specs.Plain.{casesVowel, casesB, casesF, casesK, casesN, casesQ, casesV, casesRest}
+use Rattle.rules.specs.CasesC.{casesC}
+use Rattle.rules.specs.CasesDL.{casesD, casesH, casesJ, casesL}
+use Rattle.rules.specs.CasesG.{casesG}
+use Rattle.rules.specs.CasesMZ.{casesM, casesP, casesR, casesT, casesW, casesX, casesZ}
+use Rattle.rules.specs.CasesS.{casesS}
 use Rattle.rules.specs.declared.Visit.{Visit}
-
--- the vowels and Y give A at place 0 only
-unfoldable pub casesVowel : List Case
-casesVowel = case (place 0) "A" "A" 0 ∷ case always "" "" 0 ∷ []
-
--- digits, signs and control bytes add nothing
-unfoldable pub casesRest : List Case
-casesRest = case always "" "" 0 ∷ []
 
 pub record Row : Type 0 where
   pub keys : String

@@ -2,7 +2,7 @@
 -- (proofs/Tree.antt shows once that a tree and its ways answer alike); each letter's trees stand beside its code.
 use Prim.Native.Nat.{ℕ}
 use Prim.Native.String.{String}
-use mathlib.Core.Bool.{Bool, cond}
+use mathlib.Core.Bool.{cond}
 use mathlib.Core.List.{List, [], _∷_, _++_}
 use mathlib.Core.Option.{Option, none, some}
 use Rattle.rules.specs.Cond.{Cond, Mode, always, _&_, holds}

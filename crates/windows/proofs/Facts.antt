@@ -2,9 +2,8 @@
 use Prim.Native.Nat.{ℕ, zero, suc, _+_, _-_, _≤_, _<_}
 use mathlib.Core.Path.{_≡_, refl, sym, ap, _∙_, subst}
 use mathlib.Core.Bool.{Bool, true, false, _&&_, _||_, or-true, or-false}
-use mathlib.Core.List.{List, [], _∷_, map}
+use mathlib.Core.List.{List, [], _∷_}
 use mathlib.Core.Logic.{inl, inr}
-use types.Run.{OneOf}
 use native.Mathlib.Omega.{arith}
 use borrow.Author.Tests.{leb-true, le-leb, eqb-true, eqb-false, eq-eqb, ne-eqb, lt-ltb, le-ltb}
 use lib.Dec.{leb, eqb}
@@ -12,6 +11,7 @@ use lib.ListN.{length, getD, take, drop, length-map, length-take, length-drop, L
 use lib.Seq.{ext-getD, getD-take, getD-drop}
 use Rattle.windows.specs.Text.{up, upper, same}
 use Rattle.windows.specs.Window.{isAt, sees, byteAt, cut, texts, among, vowel, vowelAt, endsAfter, isLong}
+use types.Run.{OneOf}
 
 pub no : (b : Bool) → (b ≡ true → ⊥) → b ≡ false
 no true h = absurd (h refl)

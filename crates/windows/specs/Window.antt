@@ -2,7 +2,7 @@
 -- A place below 0 or a window past the end is no match, and a text of another length than the window never matches
 -- (`past-none`, `other-length-none` in proofs/Facts.antt, for any width).
 use Prim.Native.Nat.{ℕ, zero, suc, _+_, _-_}
-use mathlib.Core.Bool.{Bool, true, false, _&&_, _||_}
+use mathlib.Core.Bool.{Bool, false, _&&_, _||_}
 use mathlib.Core.List.{List, [], _∷_}
 use lib.Dec.{leb, ltb, eqb}
 use lib.ListN.{length, getD, take, drop}

@@ -9,11 +9,7 @@ ghost use Rattle.windows.specs.Window.{isAt, sees, byteAt, vowel, vowelA
 pub fn capital(b: u8) -> u8
     ensures { λ r. ⌜ r ≡ up b ⌝ }
 {
-    if (97 <= b) & (b <= 122) {
-        b - 32
-    } else {
-        b
-    }
+    if (97 <= b) & (b <= 122) { b - 32 } else { b }
 }
 
 // The capital is a vowel, Y among them.

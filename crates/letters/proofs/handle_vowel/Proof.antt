@@ -2,7 +2,7 @@
 use borrow.Author.Tests.{eq-eqb, ne-eqb}
 use Rattle.rules.specs.Cond.{holds}
 use Rattle.rules.specs.Case.{first}
-use Rattle.rules.specs.Table.{casesVowel}
+use Rattle.rules.specs.Plain.{casesVowel}
 use Rattle.letters.proofs.handle_vowel.Statement.{statement}
 use Rattle.letters.proofs.handle_vowel.Tie as tie
 

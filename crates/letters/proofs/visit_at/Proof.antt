@@ -3,10 +3,11 @@ use mathlib.Core.Path.{refl}
 use borrow.Author.Needs.{needs}
 use Rattle.rules.specs.Cond.{holds}
 use Rattle.rules.specs.Case.{first}
-use Rattle.rules.specs.CasesBF.{casesC, casesD}
-use Rattle.rules.specs.CasesGL.{casesH, casesL}
+use Rattle.rules.specs.Plain.{casesRest}
+use Rattle.rules.specs.CasesC.{casesC}
+use Rattle.rules.specs.CasesDL.{casesD, casesH, casesL}
 use Rattle.rules.specs.CasesMZ.{casesM, casesP, casesT, casesW, casesX}
-use Rattle.rules.specs.Table.{casesRest, rows, casesIn}
+use Rattle.rules.specs.Table.{rows, casesIn}
 use Rattle.rules.proofs.Row.{past-zero, arm, arm-free, arm-plain, arm-vowel, arm-rest}
 use Rattle.letters.proofs.visit_at.Statement.{statement}
 use Rattle.letters.proofs.visit_at.Tie as tie

@@ -1,0 +1,24 @@
+-- `letters_c::handle_c_next` meets its contract: at each return the tests on the way lead the tree there. Assumes nothing.
+use mathlib.Core.Path.{refl}
+use Rattle.rules.specs.Cond.{holds}
+use Rattle.rules.proofs.Tree.{said, says}
+use Rattle.letters_c.specs.Trees.{treeCNext}
+use Rattle.letters_c.proofs.handle_c_next.Statement.{statement}
+use Rattle.letters_c.proofs.handle_c_next.Tie as tie
+
+pub handle-c-next-spec : {M : Type 1} → statement M
+unfolding holds treeCNext
+handle-c-next-spec =
+    tie.close
+    (tie.spec
+    (λ c. refl) (λ c κs. tt)
+    (λ c κs. tt)
+    (λ c κs. tt)
+    (λ c κs. tt)
+    (λ c. refl) (λ c κs. tt)
+    (λ c κs. tt)
+    (λ c κs. tt)
+    (λ c. said (search says depth 14))
+    (λ c. said (search says depth 14))
+    (λ c. said (search says depth 14))
+    (λ c. said (search says depth 14)))

@@ -1,0 +1,26 @@
+-- `letters_c::handle_ch` meets its contract: at each return the tests on the way lead the tree there. Assumes nothing.
+use mathlib.Core.Path.{refl}
+use Rattle.rules.specs.Cond.{holds}
+use Rattle.rules.proofs.Tree.{said, says}
+use Rattle.letters_c.specs.Trees.{treeCH}
+use Rattle.letters_c.proofs.handle_ch.Statement.{statement}
+use Rattle.letters_c.proofs.handle_ch.Tie as tie
+
+pub handle-ch-spec : {M : Type 1} → statement M
+unfolding holds treeCH
+handle-ch-spec =
+    tie.close
+    (tie.spec
+    (λ c κs. tt)
+    (λ c κs. tt)
+    (λ c κs. tt)
+    (λ c κs. tt)
+    (λ c. refl) (λ c κs. tt)
+    (λ c κs. tt)
+    (λ c κs. tt)
+    (λ c κs. tt)
+    (λ c. said (search says depth 14))
+    (λ c. said (search says depth 14))
+    (λ c. said (search says depth 14))
+    (λ c. said (search says depth 14))
+    (λ c. said (search says depth 14)))

@@ -1,0 +1,13 @@
+-- `letters_c::is_chae` meets its contract: its expression is the condition. Assumes nothing.
+use mathlib.Core.Path.{refl}
+use Rattle.rules.specs.Cond.{holds}
+use Rattle.letters_c.proofs.is_chae.Statement.{statement}
+use Rattle.letters_c.proofs.is_chae.Tie as tie
+
+pub is-chae-spec : {M : Type 1} → statement M
+unfolding holds
+is-chae-spec =
+    tie.close
+    (tie.spec
+    (λ c. refl) (λ c κs. tt)
+    (λ c. cc))

@@ -1,0 +1,14 @@
+-- `letters_c::is_double` meets its contract: its expression is the condition. Assumes nothing.
+use mathlib.Core.Path.{refl}
+use Rattle.rules.specs.Cond.{holds}
+use Rattle.letters_c.proofs.is_double.Statement.{statement}
+use Rattle.letters_c.proofs.is_double.Tie as tie
+
+pub is-double-spec : {M : Type 1} → statement M
+unfolding holds
+is-double-spec =
+    tie.close
+    (tie.spec
+    (λ c. refl) (λ c κs. tt)
+    (λ c κs. tt)
+    (λ c. cc))

@@ -1,0 +1,13 @@
+-- `letters_c::is_greek` meets its contract: its expression is the condition. Assumes nothing.
+use Rattle.rules.specs.Cond.{holds}
+use Rattle.letters_c.proofs.is_greek.Statement.{statement}
+use Rattle.letters_c.proofs.is_greek.Tie as tie
+
+pub is-greek-spec : {M : Type 1} → statement M
+unfolding holds
+is-greek-spec =
+    tie.close
+    (tie.spec
+    (λ c κs. tt)
+    (λ c κs. tt)
+    (λ c. cc))

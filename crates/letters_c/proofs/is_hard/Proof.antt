@@ -1,0 +1,14 @@
+-- `letters_c::is_hard` meets its contract: its expression is the condition. Assumes nothing.
+use mathlib.Core.Path.{refl}
+use Rattle.rules.specs.Cond.{holds}
+use Rattle.letters_c.proofs.is_hard.Statement.{statement}
+use Rattle.letters_c.proofs.is_hard.Tie as tie
+
+pub is-hard-spec : {M : Type 1} → statement M
+unfolding holds
+is-hard-spec =
+    tie.close
+    (tie.spec
+    (λ c. refl) (λ c κs. tt)
+    (λ c. refl) (λ c κs. tt)
+    (λ c. cc))

@@ -1,0 +1,16 @@
+-- `letters_c::is_van_or_von` meets its contract: the window is asked for the two texts one by one. Assumes nothing.
+use mathlib.Core.Path.{refl, ap₂, _∙_}
+use mathlib.Core.Bool.{_||_}
+use Rattle.windows.proofs.Facts.{sees-two}
+use Rattle.rules.specs.Cond.{holds}
+use Rattle.letters_c.proofs.is_van_or_von.Statement.{statement}
+use Rattle.letters_c.proofs.is_van_or_von.Tie as tie
+
+pub is-van-or-von-spec : {M : Type 1} → statement M
+unfolding holds
+is-van-or-von-spec =
+    tie.close
+    (tie.spec
+    (λ c. refl) (λ c κs. tt)
+    (λ c. refl) (λ c κs. tt)
+    (λ c. ap₂ _||_ (c .before .before .window-is .ensures) (c .window-is2 .ensures) ∙ sees-two _ _ _ _ _))

@@ -1,0 +1,13 @@
+-- `letters_d_l::h::is_before_vowel` meets its contract: its expression is the condition. Assumes nothing.
+use Rattle.rules.specs.Cond.{holds}
+use Rattle.letters_d_l.proofs.h.is_before_vowel.Statement.{statement}
+use Rattle.letters_d_l.proofs.h.is_before_vowel.Tie as tie
+
+pub is-before-vowel-spec : {M : Type 1} → statement M
+unfolding holds
+is-before-vowel-spec =
+    tie.close
+    (tie.spec
+    (λ c κs. tt)
+    (λ c κs. tt)
+    (λ c. cc))

@@ -1,0 +1,21 @@
+-- `letters_d_l::j::handle_j` meets its contract: at each return the tests on the way lead the tree there. Assumes nothing.
+use Rattle.rules.specs.Cond.{holds}
+use Rattle.rules.proofs.Tree.{spoken, says-marked}
+use Rattle.letters_d_l.specs.Trees.{treeJ, treeJOther}
+use Rattle.letters_d_l.proofs.Ways.{ways-J}
+use Rattle.letters_d_l.proofs.j.handle_j.Statement.{statement}
+use Rattle.letters_d_l.proofs.j.handle_j.Tie as tie
+
+pub handle-j-spec : {M : Type 1} → statement M
+unfolding holds treeJ treeJOther
+handle-j-spec =
+    tie.close
+    (tie.spec
+    (λ c κs. tt)
+    (λ c κs. tt)
+    (λ c κs. tt)
+    (λ c κs. tt)
+    (λ c κs. tt)
+    (λ c. spoken ways-J (search says-marked depth 14))
+    (λ c. spoken ways-J (search says-marked depth 14))
+    (λ c. spoken ways-J (search says-marked depth 14)))

@@ -1,0 +1,3 @@
+-- Laws of this crate's letters.
+--     Ways   each letter's cases are the ways through its tree
+pub mod Ways

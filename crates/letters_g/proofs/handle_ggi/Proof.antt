@@ -1,0 +1,21 @@
+-- `letters_g::handle_ggi` meets its contract: at each return the tests on the way lead the tree there. Assumes nothing.
+use mathlib.Core.Path.{refl}
+use Rattle.rules.specs.Cond.{holds}
+use Rattle.rules.proofs.Tree.{said, says}
+use Rattle.letters_g.specs.Trees.{treeGGI}
+use Rattle.letters_g.proofs.handle_ggi.Statement.{statement}
+use Rattle.letters_g.proofs.handle_ggi.Tie as tie
+
+pub handle-ggi-spec : {M : Type 1} → statement M
+unfolding holds treeGGI
+handle-ggi-spec =
+    tie.close
+    (tie.spec
+    (λ c κs. tt)
+    (λ c κs. tt)
+    (λ c. refl) (λ c κs. tt)
+    (λ c κs. tt)
+    (λ c κs. tt)
+    (λ c. said (search says depth 14))
+    (λ c. said (search says depth 14))
+    (λ c. said (search says depth 14)))

@@ -1,0 +1,14 @@
+-- `letters_g::is_biaggi` meets its contract: its expression is the condition. Assumes nothing.
+use mathlib.Core.Path.{refl}
+use Rattle.rules.specs.Cond.{holds}
+use Rattle.letters_g.proofs.is_biaggi.Statement.{statement}
+use Rattle.letters_g.proofs.is_biaggi.Tie as tie
+
+pub is-biaggi-spec : {M : Type 1} → statement M
+unfolding holds
+is-biaggi-spec =
+    tie.close
+    (tie.spec
+    (λ c. refl) (λ c κs. tt)
+    (λ c. refl) (λ c κs. tt)
+    (λ c. cc))

@@ -1,0 +1,18 @@
+-- `letters_g::is_ger` meets its contract: its expression is the condition. Assumes nothing.
+use mathlib.Core.Path.{refl}
+use Rattle.rules.specs.Cond.{holds}
+use Rattle.letters_g.proofs.is_ger.Statement.{statement}
+use Rattle.letters_g.proofs.is_ger.Tie as tie
+
+pub is-ger-spec : {M : Type 1} → statement M
+unfolding holds
+is-ger-spec =
+    tie.close
+    (tie.spec
+    (λ c κs. tt)
+    (λ c. refl) (λ c κs. tt)
+    (λ c κs. tt)
+    (λ c. refl) (λ c κs. tt)
+    (λ c. refl) (λ c κs. tt)
+    (λ c. refl) (λ c κs. tt)
+    (λ c. cc))

@@ -1,0 +1,14 @@
+-- `letters_g::is_ger_first` meets its contract: its expression is the condition. Assumes nothing.
+use mathlib.Core.Path.{refl}
+use Rattle.rules.specs.Cond.{holds}
+use Rattle.letters_g.proofs.is_ger_first.Statement.{statement}
+use Rattle.letters_g.proofs.is_ger_first.Tie as tie
+
+pub is-ger-first-spec : {M : Type 1} → statement M
+unfolding holds
+is-ger-first-spec =
+    tie.close
+    (tie.spec
+    (λ c κs. tt)
+    (λ c. refl) (λ c κs. tt)
+    (λ c. cc))

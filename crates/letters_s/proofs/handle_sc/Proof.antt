@@ -1,0 +1,21 @@
+-- `letters_s::handle_sc` meets its contract: at each return the tests on the way lead the tree there. Assumes nothing.
+use mathlib.Core.Path.{refl}
+use Rattle.rules.specs.Cond.{holds}
+use Rattle.rules.proofs.Tree.{said, says}
+use Rattle.letters_s.specs.Trees.{treeSC}
+use Rattle.letters_s.proofs.handle_sc.Statement.{statement}
+use Rattle.letters_s.proofs.handle_sc.Tie as tie
+
+pub handle-sc-spec : {M : Type 1} → statement M
+unfolding holds treeSC
+handle-sc-spec =
+    tie.close
+    (tie.spec
+    (λ c κs. tt)
+    (λ c κs. tt)
+    (λ c. refl) (λ c κs. tt)
+    (λ c κs. tt)
+    (λ c κs. tt)
+    (λ c. said (search says depth 14))
+    (λ c. said (search says depth 14))
+    (λ c. said (search says depth 14)))

@@ -1,0 +1,18 @@
+-- `letters_s::handle_sh` meets its contract: at each return the tests on the way lead the tree there. Assumes nothing.
+use mathlib.Core.Path.{refl}
+use Rattle.rules.specs.Cond.{holds}
+use Rattle.rules.proofs.Tree.{said, says}
+use Rattle.letters_s.specs.Trees.{treeSH}
+use Rattle.letters_s.proofs.handle_sh.Statement.{statement}
+use Rattle.letters_s.proofs.handle_sh.Tie as tie
+
+pub handle-sh-spec : {M : Type 1} → statement M
+unfolding holds treeSH
+handle-sh-spec =
+    tie.close
+    (tie.spec
+    (λ c. refl) (λ c κs. tt)
+    (λ c κs. tt)
+    (λ c κs. tt)
+    (λ c. said (search says depth 14))
+    (λ c. said (search says depth 14)))

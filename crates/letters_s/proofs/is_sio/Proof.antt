@@ -1,0 +1,14 @@
+-- `letters_s::is_sio` meets its contract: its expression is the condition. Assumes nothing.
+use mathlib.Core.Path.{refl}
+use Rattle.rules.specs.Cond.{holds}
+use Rattle.letters_s.proofs.is_sio.Statement.{statement}
+use Rattle.letters_s.proofs.is_sio.Tie as tie
+
+pub is-sio-spec : {M : Type 1} → statement M
+unfolding holds
+is-sio-spec =
+    tie.close
+    (tie.spec
+    (λ c. refl) (λ c κs. tt)
+    (λ c. refl) (λ c κs. tt)
+    (λ c. cc))

@@ -7,6 +7,7 @@
 --     Front      at place 0 a second byte is added only where a byte that stands there is passed over
 --     Local      how far a rule can see
 --     Examples   single visits and the number of cases, computed
+--     NoChoice   no public function's promise leaves a choice
 pub mod Mode
 pub mod Tree
 pub mod Row
@@ -15,3 +16,4 @@ pub mod Bound
 pub mod Front
 pub mod Local
 pub mod Examples
+pub mod NoChoice

@@ -3,8 +3,8 @@ use Prim.Native.Nat.{ℕ}
 use mathlib.Core.List.{List}
 use mathlib.Core.Path.{_≡_}
 use borrow.Fn.Kinds.{PK, RK, Out, Dens, resT, endedOf}
-use contract.Lifetimes.{Lfts}
 use denote.Triple.Clauses.{AtExit}
+use contract.Lifetimes.{Lfts}
 
 -- of a promise over the arguments, the result and the parameters at exit
 abbrev pub OneResult : {n : ℕ} (ps : List (PK n)) (r : RK n) → Out n ps r → Type 0

@@ -1,0 +1,160 @@
+-- One turn of the walk's loop, in terms of the definitions.
+use Prim.Native.Nat.{ℕ, zero, suc, _+_, _-_, _≤_, _<_, min, max}
+use mathlib.Core.Path.{_≡_, refl, sym, ap, _∙_, subst}
+use mathlib.Core.List.{List, [], _∷_, _++_}
+use native.Mathlib.Omega.{arith}
+use native.Mathlib.Nat.{add-zero}
+use borrow.Author.Tests.{eq-eqb, ne-eqb}
+use lib.ListN.{length, take, length-take}
+use lib.Seq.{sets}
+use Rattle.rules.specs.declared.Visit.{Visit}
+use Rattle.rules.specs.Kept.{bytesOf}
+use Rattle.walk.specs.declared.Tally.{Tally}
+use Rattle.walk.specs.Walk.{places, toPrimary, toAlternate, Coded, ended, after, limited, tallyOf, filled}
+use Rattle.walk.specs.Word.{ruleOf, visitsOf, startOf, limitedOf}
+use Rattle.walk.proofs.Half.{Half, half-start, half-room, half-step, half-length, half-end}
+
+-- passing bytes over is starting behind them
+skipped : (v : ℕ → Visit) (at skip left : ℕ) → places v at skip left ≡ places v (at + skip) 0 (left - skip)
+skipped v at zero left = rw (add-zero at, native.Mathlib.Nat.sub-zero left)
+skipped v at (suc k) zero = let e : zero - suc k ≡ 0 = omega arith in rw e
+skipped v at (suc k) (suc left) =
+    let e : suc left - suc k ≡ left - k = omega arith in
+    let f : at + suc k ≡ suc at + k = omega arith in
+    rw (e, f) (skipped v (suc at) k left)
+
+-- before the end the walk visits the place it stands at, and goes on behind what that visit passes over
+pub next-place : (v : ℕ → Visit) (at next t : ℕ) → at < t → next ≡ min (at + 1 + v at .over) t → places v at 0 (t - at) ≡ at ∷ places v next 0 (t - next)
+next-place v at next t h e =
+    let d : t - at ≡ suc (t - suc at) = omega arith in
+    rw d (ap (λ (l : List ℕ). at ∷ l) (skipped v (suc at) (v at .over) (t - suc at) ∙ go (t - next) refl))
+  where
+    go : (left : ℕ) → t - next ≡ left → places v (suc at + v at .over) 0 (t - suc at - v at .over) ≡ places v next 0 (t - next)
+    go zero z =
+        let a : t - suc at - v at .over ≡ 0 = omega arith in
+        rw (a, z)
+    go (suc left) z =
+        let a : suc at + v at .over ≡ next = omega arith in
+        let b : t - suc at - v at .over ≡ t - next = omega arith in
+        rw (a, b)
+
+limited-visit : (g h : ℕ → List ℕ) (n m p : ℕ) (ps : List ℕ) → 0 < max n m → limited g h n m (p ∷ ps) ≡ after (take n (g p)) (take m (h p)) (limited g h (n - length (g p)) (m - length (h p)) ps)
+limited-visit g h n m p ps more = rw (ne-eqb (max n m) 0 (λ e. omega arith))
+
+limited-full : (g h : ℕ → List ℕ) (n m : ℕ) (ps : List ℕ) → max n m ≡ 0 → limited g h n m ps ≡ ended
+limited-full g h n m [] e = refl
+limited-full g h n m (p ∷ ps) e = rw (eq-eqb (max n m) 0 e)
+
+-- what is still to come from place `at` on, where the codes have np and na bytes
+abbrev pub rest : List ℕ → ℕ → ℕ → ℕ → ℕ → Coded
+rest w limit at np na =
+    limited (toPrimary (ruleOf w)) (toAlternate (ruleOf w)) (limit - np) (limit - na) (places (ruleOf w) at 0 (length w - at))
+
+-- both codes written, with their lengths and the count of visits
+abbrev pub Written : Coded → List ℕ → List ℕ → List ℕ → List ℕ → ℕ → ℕ → ℕ → Type 0
+Written c p₀ a₀ p a np na visits =
+    (_≡_ {A = Tally} (record { primary = np; alternate = na; visits = visits }) (tallyOf c)) × ((p ≡ filled (c .primary) p₀) × (a ≡ filled (c .alternate) a₀))
+
+-- the loop's invariant
+pub record Going (w p₀ a₀ p a : List ℕ) (limit at np na visits : ℕ) : Type 0 where
+  pub primary : Half (limitedOf limit w .primary) (rest w limit at np na .primary) p₀ p limit np
+  pub alternate : Half (limitedOf limit w .alternate) (rest w limit at np na .alternate) a₀ a limit na
+  pub visited : visits + rest w limit at np na .visits ≡ limitedOf limit w .visits
+  pub low : visits ≤ at
+
+pub going : (w p a : List ℕ) (limit : ℕ) → Going w p a p a limit (startOf w) 0 0 0
+unfolding visitsOf
+going w p a limit =
+    let z : limit - 0 ≡ limit = omega arith in
+    record {
+      primary = rw z (half-start (limitedOf limit w .primary) p limit);
+      alternate = rw z (half-start (limitedOf limit w .alternate) a limit);
+      visited = rw z (native.Mathlib.Nat.zero-add (limitedOf limit w .visits));
+      low = omega arith;
+    }
+
+-- what a code may take after an addition
+left-over : (limit len : ℕ) (xs : List ℕ) → limit - (len + length (take (limit - len) xs)) ≡ limit - len - length xs
+left-over limit len xs = omega (arith, length-take (limit - len) xs)
+
+-- the loop's test, as the definition has it
+wants : (limit np na : ℕ) → min np na < limit → 0 < max (limit - np) (limit - na)
+wants limit np na h = omega arith
+
+wants-none : (limit np na : ℕ) → limit ≤ min np na → max (limit - np) (limit - na) ≡ 0
+wants-none limit np na h = omega arith
+
+clipped : (limit len : ℕ) (xs : List ℕ) → len ≤ limit → len + length (take (limit - len) xs) ≤ limit
+clipped limit len xs h = omega (arith, length-take (limit - len) xs)
+
+further : (at over t n : ℕ) → at < t → n ≤ at → n + 1 ≤ min (at + 1 + over) t
+further at over t n h l = omega arith
+
+one-more : (a b c n : ℕ) → a + b ≡ n → b ≡ suc c → a + 1 + c ≡ n
+one-more a b c n e f = omega arith
+
+-- a turn that visits place `at`, where v is what the rule says there
+module _ {w p₀ a₀ p a : List ℕ} {limit at np na visits : ℕ} (s : Going w p₀ a₀ p a limit at np na visits) (v : Visit) (e : v ≡ ruleOf w at) (inside : at < length w) (wanted : min np na < limit) where
+  x : List ℕ
+  x = take (limit - np) (bytesOf (v .primary))
+
+  y : List ℕ
+  y = take (limit - na) (bytesOf (v .alternate))
+
+  onward : (next : ℕ) → next ≡ min (at + 1 + v .over) (length w) → rest w limit at np na ≡ after x y (rest w limit next (np + length x) (na + length y))
+  unfolding x y
+  onward next n =
+      let f : next ≡ min (at + 1 + ruleOf w at .over) (length w) = rw (← e) n in
+      ap (λ (ps : List ℕ). limited (toPrimary (ruleOf w)) (toAlternate (ruleOf w)) (limit - np) (limit - na) ps) (next-place (ruleOf w) at next (length w) inside f)
+      ∙ limited-visit (toPrimary (ruleOf w)) (toAlternate (ruleOf w)) (limit - np) (limit - na) at (places (ruleOf w) next 0 (length w - next)) (wants limit np na wanted)
+      ∙ rw (left-over limit np (bytesOf (v .primary)), left-over limit na (bytesOf (v .alternate)), e)
+
+  half-p : (next : ℕ) → next ≡ min (at + 1 + v .over) (length w) → Half (limitedOf limit w .primary) (x ++ rest w limit next (np + length x) (na + length y) .primary) p₀ p limit np
+  half-p next n = subst (λ (c : Coded). Half (limitedOf limit w .primary) (c .primary) p₀ p limit np) (onward next n) (s .primary)
+
+  half-a : (next : ℕ) → next ≡ min (at + 1 + v .over) (length w) → Half (limitedOf limit w .alternate) (y ++ rest w limit next (np + length x) (na + length y) .alternate) a₀ a limit na
+  half-a next n = subst (λ (c : Coded). Half (limitedOf limit w .alternate) (c .alternate) a₀ a limit na) (onward next n) (s .alternate)
+
+  -- there is room for what is added
+  pub room-p : length (limitedOf limit w .primary) ≤ length p₀ → np + length (take (limit - np) (bytesOf (v .primary))) ≤ length p
+  unfolding x
+  room-p room = half-room x (rest w limit (min (at + 1 + v .over) (length w)) (np + length x) (na + length y) .primary) (half-p (min (at + 1 + v .over) (length w)) refl) room
+
+  pub room-a : length (limitedOf limit w .alternate) ≤ length a₀ → na + length (take (limit - na) (bytesOf (v .alternate))) ≤ length a
+  unfolding y
+  room-a room = half-room y (rest w limit (min (at + 1 + v .over) (length w)) (np + length x) (na + length y) .alternate) (half-a (min (at + 1 + v .over) (length w)) refl) room
+
+  -- the turn: both additions are written, and the walk stands behind what the visit passes over
+  pub turned : (next np′ na′ : ℕ) (p′ a′ : List ℕ) → next ≡ min (at + 1 + v .over) (length w)
+      → np′ ≡ np + length (take (limit - np) (bytesOf (v .primary))) → na′ ≡ na + length (take (limit - na) (bytesOf (v .alternate)))
+      → p′ ≡ sets p np (take (limit - np) (bytesOf (v .primary))) → a′ ≡ sets a na (take (limit - na) (bytesOf (v .alternate)))
+      → length (limitedOf limit w .primary) ≤ length p₀ → length (limitedOf limit w .alternate) ≤ length a₀
+      → Going w p₀ a₀ p′ a′ limit next np′ na′ (visits + 1)
+  unfolding x y
+  turned next np′ na′ p′ a′ n ep ea fp fa rp ra =
+      let r : Coded = rest w limit next (np + length x) (na + length y) in
+      let g : Going w p₀ a₀ (sets p np x) (sets a na y) limit next (np + length x) (na + length y) (visits + 1) =
+      record {
+        primary = half-step x (r .primary) (half-p next n) (room-p rp) (clipped limit np (bytesOf (v .primary)) (s .primary .under));
+        alternate = half-step y (r .alternate) (half-a next n) (room-a ra) (clipped limit na (bytesOf (v .alternate)) (s .alternate .under));
+        visited = one-more visits (rest w limit at np na .visits) (r .visits) (limitedOf limit w .visits) (s .visited) (ap (λ (c : Coded). c .visits) (onward next n));
+        low = subst (λ (k : ℕ). visits + 1 ≤ k) (sym n) (further at (v .over) (length w) visits inside (s .low));
+      }
+      in rw (ep, ea, fp, fa) g
+
+-- the loop's end
+module _ {w p₀ a₀ p a : List ℕ} {limit at np na visits : ℕ} (s : Going w p₀ a₀ p a limit at np na visits) where
+  finished : rest w limit at np na ≡ ended → Written (limitedOf limit w) p₀ a₀ p a np na visits
+  finished e =
+      let hp : Half (limitedOf limit w .primary) [] p₀ p limit np = subst (λ (c : Coded). Half (limitedOf limit w .primary) (c .primary) p₀ p limit np) e (s .primary) in
+      let ha : Half (limitedOf limit w .alternate) [] a₀ a limit na = subst (λ (c : Coded). Half (limitedOf limit w .alternate) (c .alternate) a₀ a limit na) e (s .alternate) in
+      let z : visits ≡ limitedOf limit w .visits = sym (add-zero visits) ∙ subst (λ (c : Coded). visits + c .visits ≡ limitedOf limit w .visits) e (s .visited) in
+      (λ i. record { primary = half-length hp i; alternate = half-length ha i; visits = z i }, (half-end hp, half-end ha))
+
+  -- past the word's end
+  pub at-end : length w ≤ at → Written (limitedOf limit w) p₀ a₀ p a np na visits
+  at-end h = let z : length w - at ≡ 0 = omega arith in finished (rw z)
+
+  -- both codes have what the limit allows
+  pub at-limit : limit ≤ min np na → Written (limitedOf limit w) p₀ a₀ p a np na visits
+  at-limit h = finished (limited-full (toPrimary (ruleOf w)) (toAlternate (ruleOf w)) (limit - np) (limit - na) (places (ruleOf w) at 0 (length w - at)) (wants-none limit np na h))

@@ -1,0 +1,127 @@
+-- The mark, from the end of the word on: what stands at a place, and what stands behind it. Assumes nothing.
+use Prim.Native.Nat.{ℕ, zero, suc, _+_, _-_, _≤_, _<_}
+use mathlib.Core.Path.{_≡_, refl, sym, ap, ap₂, _∙_}
+use mathlib.Core.List.{List, [], _∷_, map}
+use mathlib.Core.Bool.{Bool, true, false, _&&_, _||_, and-true, or-false}
+use native.Mathlib.Nat.{add-zero, zero-add}
+use native.Mathlib.Omega.{arith}
+use borrow.Author.Tests.{le-leb, lt-leb, leb-true, leb-false}
+use lib.Dec.{leb, eqb}
+use lib.ListN.{length, getD, take, drop, length-drop, drop-of-length-le, List·getD-eq-default}
+use lib.Seq.{drop-cons, getD-drop}
+use Rattle.windows.specs.Text.{bytes, up, upper, same}
+use Rattle.windows.specs.Window.{isAt}
+use Rattle.windows.proofs.Facts.{length-upper, getD-upper}
+use Rattle.walk.specs.Word.{beginsOne, hasOne, slavoGermanic}
+
+-- ---- a text of one byte, and of two, at the front
+one-there : (b x : ℕ) (r : List ℕ) → isAt (b ∷ r) 0 1 (x ∷ []) ≡ eqb b x
+unfolding isAt same
+one-there b x r = simp (le-leb 1 (suc (length r)) (omega arith), and-true)
+
+two-there : (b x y : ℕ) (r : List ℕ) → eqb 0 y ≡ false → isAt (b ∷ r) 0 2 (x ∷ y ∷ []) ≡ (eqb b x && eqb (getD r 0 0) y)
+unfolding isAt same
+two-there b x y [] e = rw e (none (eqb b x))
+  where
+    none : (q : Bool) → false ≡ (q && false)
+    none true = refl
+    none false = refl
+two-there b x y (d ∷ r) e = simp (le-leb 2 (suc (suc (length r))) (omega arith), and-true)
+
+or-three : (a b c : Bool) → (a || (b || (c || false))) ≡ ((a || b) || c)
+or-three true b c = refl
+or-three false true c = refl
+or-three false false c = or-false c
+
+begins-w-k-cz : (b : ℕ) (r : List ℕ)
+    → beginsOne (map bytes ("W" ∷ "K" ∷ "CZ" ∷ [])) (b ∷ r) ≡ ((eqb b 87 || eqb b 75) || (eqb b 67 && eqb (getD r 0 0) 90))
+unfolding beginsOne
+begins-w-k-cz b r =
+    rw (one-there b 87 r, one-there b 75 r, two-there b 67 90 r refl)
+    (or-three (eqb b 87) (eqb b 75) (eqb b 67 && eqb (getD r 0 0) 90))
+
+-- ---- the scans, one place at a time
+has-cons : (ts : List (List ℕ)) (u : List ℕ) (i : ℕ) → i < length u
+    → hasOne ts (drop i u) ≡ (beginsOne ts (drop i u) || hasOne ts (drop (suc i) u))
+unfolding hasOne
+has-cons ts u i h = rw (drop-cons u i 0 h)
+
+pub has-none : (ts : List (List ℕ)) (w : List ℕ) (i : ℕ) → length w ≤ i → false ≡ hasOne ts (drop i (upper w))
+unfolding hasOne
+has-none ts w i h =
+    let l : length (upper w) ≤ i = rw length-upper h in
+    let e : drop i (upper w) ≡ [] = drop-of-length-le (upper w) l in
+    rw e
+
+pub next-none : (w : List ℕ) (i : ℕ) → length w ≤ i → 0 ≡ getD (upper w) i 0
+next-none w i h = let l : length (upper w) ≤ i = rw length-upper h in sym (List·getD-eq-default (upper w) 0 l)
+
+pub w-k-cz-turn : (w : List ℕ) (i b next : ℕ) (found : Bool) → 0 < i → i ≤ length w → b ≡ up (getD w (i - 1) 0) → next ≡ getD (upper w) i 0
+    → found ≡ hasOne (map bytes ("W" ∷ "K" ∷ "CZ" ∷ [])) (drop i (upper w))
+    → (((eqb b 87 || eqb b 75) || (eqb b 67 && eqb next 90)) || found) ≡ hasOne (map bytes ("W" ∷ "K" ∷ "CZ" ∷ [])) (drop (i - 1) (upper w))
+w-k-cz-turn w zero b next found z h eb en ef = absurd (omega arith)
+w-k-cz-turn w (suc i) b next found z h eb en ef =
+    let s : suc i - 1 ≡ i = omega arith in
+    let k : i < length (upper w) = rw length-upper h in
+    let c : drop i (upper w) ≡ b ∷ drop (suc i) (upper w) =
+    drop-cons (upper w) i 0 k ∙ ap (λ (x : ℕ). x ∷ drop (suc i) (upper w)) (getD-upper w i ∙ sym (rw s at eb)) in
+    let n : getD (drop (suc i) (upper w)) 0 0 ≡ next = getD-drop (suc i) (upper w) 0 0 ∙ rw add-zero (sym en) in
+    rw s
+    (sym (has-cons (map bytes ("W" ∷ "K" ∷ "CZ" ∷ [])) (upper w) i k
+    ∙ ap₂ _||_
+    (ap (beginsOne (map bytes ("W" ∷ "K" ∷ "CZ" ∷ []))) c ∙ begins-w-k-cz b (drop (suc i) (upper w))
+    ∙ ap (λ (x : ℕ). (eqb b 87 || eqb b 75) || (eqb b 67 && eqb x 90)) n)
+    (sym ef)))
+
+-- the byte that the code read is the word's
+pub byte-read : (w : List ℕ) (i b : ℕ) → b ≡ up (getD w i 0) → b ≡ getD (upper w) i 0
+byte-read w i b e = e ∙ sym (getD-upper w i)
+
+-- at the front all is found
+pub found-all : (ts : List (List ℕ)) (u : List ℕ) (i : ℕ) (found : Bool) → i ≤ 0 → found ≡ hasOne ts (drop i u) → found ≡ hasOne ts u
+found-all ts u zero found h e = e
+found-all ts u (suc i) found h e = absurd (omega arith)
+
+-- a window at a place is the window at the front of what stands there
+here : (u : List ℕ) (i n : ℕ) (t : List ℕ) → i ≤ length u → isAt u i n t ≡ isAt (drop i u) 0 n t
+unfolding isAt
+here u i n t h = ap (λ (q : Bool). q && same (take n (drop i u)) t) (fits (leb n (length (drop i u))) refl)
+  where
+    fits : (q : Bool) → leb n (length (drop i u)) ≡ q → leb (i + n) (length u) ≡ leb (0 + n) (length (drop i u))
+    fits true e = let l = leb-true n (length (drop i u)) e in rw (zero-add, e) (le-leb (i + n) (length u) (omega (arith, length-drop i u)))
+    fits false e = let l = leb-false n (length (drop i u)) e in rw (zero-add, e) (lt-leb (i + n) (length u) (omega (arith, length-drop i u)))
+
+pub witz-turn : (w : List ℕ) (i : ℕ) (q found : Bool) → 0 < i → i ≤ length w → q ≡ isAt (upper w) (i - 1) 4 (bytes "WITZ")
+    → found ≡ hasOne (map bytes ("WITZ" ∷ [])) (drop i (upper w)) → (q || found) ≡ hasOne (map bytes ("WITZ" ∷ [])) (drop (i - 1) (upper w))
+unfolding beginsOne
+witz-turn w zero q found z h eq ef = absurd (omega arith)
+witz-turn w (suc i) q found z h eq ef =
+    let s : suc i - 1 ≡ i = omega arith in
+    let k : i < length (upper w) = rw length-upper h in
+    rw s
+    (sym (has-cons (map bytes ("WITZ" ∷ [])) (upper w) i k
+    ∙ ap₂ _||_
+    (or-false (isAt (drop i (upper w)) 0 4 (bytes "WITZ")) ∙ sym (here (upper w) i 4 (bytes "WITZ") (omega arith)) ∙ sym (rw s at eq))
+    (sym ef)))
+
+-- ---- the mark is W, K or CZ, or it is WITZ
+four-tests : (a b c d e f : Bool) → ((a || (b || (c || (d || false)))) || (e || f)) ≡ (((a || (b || (c || false))) || e) || ((d || false) || f))
+four-tests true b c d e f = refl
+four-tests false true c d e f = refl
+four-tests false false true d e f = refl
+four-tests false false false true true f = refl
+four-tests false false false true false f = refl
+four-tests false false false false true f = refl
+four-tests false false false false false f = refl
+
+has-both : (u : List ℕ) → hasOne (map bytes ("W" ∷ "K" ∷ "CZ" ∷ "WITZ" ∷ [])) u ≡ (hasOne (map bytes ("W" ∷ "K" ∷ "CZ" ∷ [])) u || hasOne (map bytes ("WITZ" ∷ [])) u)
+unfolding hasOne beginsOne
+has-both [] = refl
+has-both (b ∷ u) =
+    ap (λ (q : Bool). beginsOne (map bytes ("W" ∷ "K" ∷ "CZ" ∷ "WITZ" ∷ [])) (b ∷ u) || q) (has-both u)
+    ∙ four-tests (isAt (b ∷ u) 0 1 (bytes "W")) (isAt (b ∷ u) 0 1 (bytes "K")) (isAt (b ∷ u) 0 2 (bytes "CZ")) (isAt (b ∷ u) 0 4 (bytes "WITZ"))
+    (hasOne (map bytes ("W" ∷ "K" ∷ "CZ" ∷ [])) u) (hasOne (map bytes ("WITZ" ∷ [])) u)
+
+pub mark-both : (u : List ℕ) (q r : Bool) → q ≡ hasOne (map bytes ("W" ∷ "K" ∷ "CZ" ∷ [])) u → r ≡ hasOne (map bytes ("WITZ" ∷ [])) u → (q || r) ≡ slavoGermanic u
+unfolding slavoGermanic
+mark-both u q r e f = ap₂ _||_ e f ∙ sym (has-both u)

@@ -1,0 +1,48 @@
+-- A trimmed word (document 01, "Preparing the word"): its Slavo-Germanic mark, where its walk starts, the rule at its places, and
+-- its codes. Letters a to z count as A to Z by `upper`; a silent first letter is no visit, and places still count from the front.
+use Prim.Native.Nat.{ℕ, _-_}
+use mathlib.Core.List.{List, [], _∷_, map}
+use mathlib.Core.Bool.{Bool, false, cond, _||_}
+use lib.ListN.{length}
+use Rattle.windows.specs.Text.{bytes, upper}
+use Rattle.windows.specs.Window.{isAt, sees}
+use Rattle.rules.specs.Cond.{marked}
+use Rattle.rules.specs.Table.{visit}
+use Rattle.rules.specs.declared.Visit.{Visit}
+use Rattle.walk.specs.Walk.{places, toPrimary, toAlternate, Coded, limited, whole}
+
+-- the word `u` begins with one of the texts
+unfoldable pub beginsOne : List (List ℕ) → List ℕ → Bool
+beginsOne [] u = false
+beginsOne (t ∷ ts) u = isAt u 0 (length t) t || beginsOne ts u
+
+-- one of the texts stands somewhere in it
+unfoldable pub hasOne : List (List ℕ) → List ℕ → Bool
+hasOne ts [] = false
+hasOne ts (b ∷ u) = beginsOne ts (b ∷ u) || hasOne ts u
+
+-- the mark: the word, in capitals, has W, K, CZ or WITZ
+unfoldable pub slavoGermanic : List ℕ → Bool
+slavoGermanic u = hasOne (map bytes ("W" ∷ "K" ∷ "CZ" ∷ "WITZ" ∷ [])) u
+
+-- the first letter of a word that begins so is silent, and the walk starts behind it
+abbrev pub silentStarts : List (List ℕ)
+silentStarts = map bytes ("GN" ∷ "KN" ∷ "PN" ∷ "WR" ∷ "PS" ∷ [])
+
+unfoldable pub startOf : List ℕ → ℕ
+startOf w = cond (sees (upper w) 0 2 silentStarts) 1 0
+
+-- the rule at the places of the word
+abbrev pub ruleOf : List ℕ → ℕ → Visit
+ruleOf w p = visit (upper w) p (marked (slavoGermanic (upper w)))
+
+-- the places that are visited with no limit
+unfoldable pub visitsOf : List ℕ → List ℕ
+visitsOf w = places (ruleOf w) (startOf w) 0 (length w - startOf w)
+
+-- both codes and the count of visits, with no limit and under the limit n
+abbrev pub wholeOf : List ℕ → Coded
+wholeOf w = whole (toPrimary (ruleOf w)) (toAlternate (ruleOf w)) (visitsOf w)
+
+abbrev pub limitedOf : ℕ → List ℕ → Coded
+limitedOf n w = limited (toPrimary (ruleOf w)) (toAlternate (ruleOf w)) n n (visitsOf w)

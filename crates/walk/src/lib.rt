@@ -1,0 +1,110 @@
+// The walk over a trimmed word: the Slavo-Germanic mark, the silent start, and the loop that visits place after place and writes
+// what each visit adds, clipped to the limit. Of the letter rules it uses the promise of `visit_at` alone.
+mod mark;
+
+use rules::Add;
+ghost use mathlib.Core.Path.{_≡_};
+ghost use Prim.Native.Nat.{_+_, _-_, _≤_, _<_, min};
+ghost use lib.ListN.{length, take};
+ghost use lib.Seq.{sets};
+ghost use mathlib.Core.List.{[], _∷_};
+ghost use Rattle.windows.specs.Text.{upper};
+ghost use Rattle.rules.specs.Kept.{bytesOf};
+ghost use Rattle.walk.specs.Walk.{filled, tallyOf};
+ghost use Rattle.walk.specs.Word.{slavoGermanic, startOf, limitedOf};
+
+// Both code lengths and the count of visits.
+pub struct Tally {
+    pub primary: usize,
+    pub alternate: usize,
+    pub visits: usize,
+}
+
+// Whether the word has W, K, CZ or WITZ.
+pub fn is_slavo_germanic(w: &[u8]) -> bool
+    ensures { λ r. ⌜ r ≡ slavoGermanic (upper (now (w .entry))) ⌝ }
+{
+    mark::has_w_k_cz(w) | mark::has_witz(w)
+}
+
+// The place of the first visit: 1 where the first letter is silent.
+pub fn start_of(w: &[u8]) -> usize
+    ensures { λ r. ⌜ r ≡ startOf (now (w .entry)) ⌝ }
+{
+    rules::one_if(windows::front(w, 2, b"GNKNPNWRPS"))
+}
+
+fn lesser(a: usize, b: usize) -> usize
+    ensures { λ r. ⌜ r ≡ min a b ⌝ }
+{
+    if a < b { a } else { b }
+}
+
+// The place behind a visit, and the end where that lies past it.
+fn behind(at: usize, over: usize, end: usize) -> usize
+    requires { ⌜ at < end ⌝ }
+    ensures { λ r. ⌜ r ≡ min (at + 1 + over) end ⌝ }
+{
+    if over < end - at { at + 1 + over } else { end }
+}
+
+// Writes a byte at `len` unless the limit is reached, and answers the new length (the Rust's append_char).
+fn put_byte(buf: &mut [u8], len: usize, limit: usize, x: u8) -> usize
+    requires { ⌜ len + length (take (limit - len) (x ∷ [])) ≤ length (now buf) ⌝ }
+    ensures length { λ r. ⌜ r ≡ len + length (take (limit - len) (x ∷ [])) ⌝ }
+    ensures content { λ r. ⌜ now (buf .exit) ≡ sets (now (buf .entry)) len (take (limit - len) (x ∷ [])) ⌝ }
+{
+    if limit <= len {
+        return len;
+    }
+    buf[len] = x;
+    len + 1
+}
+
+// Writes an addition, clipped to the limit (the Rust's append_str).
+fn put(buf: &mut [u8], len: usize, limit: usize, add: Add) -> usize
+    requires { ⌜ len + length (take (limit - len) (bytesOf add)) ≤ length (now buf) ⌝ }
+    ensures length { λ r. ⌜ r ≡ len + length (take (limit - len) (bytesOf add)) ⌝ }
+    ensures content { λ r. ⌜ now (buf .exit) ≡ sets (now (buf .entry)) len (take (limit - len) (bytesOf add)) ⌝ }
+{
+    match add {
+        Add::Nothing => len,
+        Add::One(x) => put_byte(buf, len, limit, x),
+        Add::Two(x, y) => {
+            let next = put_byte(buf, len, limit, x);
+            put_byte(buf, next, limit, y)
+        }
+    }
+}
+
+// Walks the word and writes both codes under the limit; each buffer has room for its code.
+pub fn walk(w: &[u8], limit: usize, p: &mut [u8], a: &mut [u8]) -> Tally
+    requires { ⌜ (length (limitedOf limit (now w) .primary) ≤ length (now p)) × (length (limitedOf limit (now w) .alternate) ≤ length (now a)) ⌝ }
+    ensures tally { λ r. ⌜ r ≡ tallyOf (limitedOf limit (now (w .entry))) ⌝ }
+    ensures primary { λ r. ⌜ now (p .exit) ≡ filled (limitedOf limit (now (w .entry)) .primary) (now (p .entry)) ⌝ }
+    ensures alternate { λ r. ⌜ now (a .exit) ≡ filled (limitedOf limit (now (w .entry)) .alternate) (now (a .entry)) ⌝ }
+{
+    let slavo = is_slavo_germanic(w);
+    let mut at = start_of(w);
+    let mut np = 0;
+    let mut na = 0;
+    let mut visits = 0;
+    while at < w.len() {
+        if limit <= lesser(np, na) {
+            break;
+        }
+        let v = letters::visit_at(w, at, slavo);
+        let x = v.primary;
+        let y = v.alternate;
+        let over = v.over;
+        np = put(p, np, limit, x);
+        na = put(a, na, limit, y);
+        visits += 1;
+        at = behind(at, over, w.len());
+    }
+    Tally {
+        primary: np,
+        alternate: na,
+        visits: visits,
+    }
+}

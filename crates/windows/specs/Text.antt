@@ -1,5 +1,5 @@
--- Bytes, texts and letter case: what a reader of the Rust's capitals sees in the lent bytes. `up-keeps` and `length-upper`
--- (proofs/Facts.antt) make it worth believing: nothing but a letter's case changes, and no place moves.
+-- Bytes, texts and letter case: "Letters a to z count as A to Z" (document 01, "Preparing the word"). Each byte is read by
+-- itself, so no place moves (`length-upper`, `getD-upper` in proofs/Facts.antt).
 use Prim.Native.Nat.{ℕ, _-_}
 use Prim.Native.Char.{code}
 use Prim.Native.String.{String}

@@ -1,6 +1,6 @@
 -- A window of a word, and the texts that it is compared with (document 01, modules 1 and 2). `u` is the word in capitals.
 -- A place below 0 or a window past the end is no match, and a text of another length than the window never matches
--- (`past-none`, `other-length-none` in proofs/Facts.antt, for any width).
+-- (`window-past`, `window-other` in proofs/Facts.antt, for any width).
 use Prim.Native.Nat.{ℕ, zero, suc, _+_, _-_}
 use mathlib.Core.Bool.{Bool, false, _&&_, _||_}
 use mathlib.Core.List.{List, [], _∷_}

@@ -1,0 +1,40 @@
+-- A word is accepted exactly when no refusal is given, and then it gets the codes and the visits of the definition's walk.
+use Prim.Native.Nat.{ℕ, _≤_}
+use mathlib.Core.Path.{_≡_, _∙_}
+use mathlib.Core.List.{List}
+use native.Mathlib.Omega.{arith}
+use borrow.Author.Tests.{le-ltb}
+use lib.ListN.{length}
+use Rattle.encoder.specs.declared.Limit.{Limit}
+use Rattle.encoder.specs.declared.Answer.{Answer}
+use Rattle.encoder.specs.Trim.{trimmed, firstHigh}
+use Rattle.encoder.specs.Encode.{wordLimit, numberOf, needOf, primaryOf, alternateOf, codedOf, answerOf, Encoded}
+use Rattle.encoder.specs.Demand2.{Taken, Accepted, Walked}
+use Rattle.encoder.proofs.High.{first-high, no-high}
+use Rattle.encoder.proofs.Table.{table}
+
+-- a word that neither refusal's test finds is taken
+pub taken-by : (w : List ℕ) → length w ≤ wordLimit → length w ≤ firstHigh w → Taken w
+taken-by w f h = record { fits = f; ascii = λ k l. first-high w .before k (omega arith) }
+
+-- where no refusal is given the word is accepted
+pub accepted : {l : Limit} {w p a : List ℕ} {r : Answer} {p′ a′ : List ℕ} → Encoded l w p a r p′ a′ → numberOf r ≡ 0 → Accepted l w p a
+accepted {w = w} e h =
+    let g = table e .accepted .0 h in
+    record { taken = taken-by w (g .0) (g .1); primary = g .2; alternate = g .3 }
+
+module _ {l : Limit} {w p a : List ℕ} (x : Accepted l w p a) where
+  answer-coded : answerOf l w (length p) (length a) ≡ codedOf l (trimmed w)
+  answer-coded =
+      rw (
+        le-ltb wordLimit (length w) (x .taken .fits),
+        le-ltb (firstHigh w) (length w) (no-high w (x .taken .ascii)),
+        le-ltb (length p) (needOf l (length (trimmed w))) (x .primary),
+        le-ltb (length a) (needOf l (length (trimmed w))) (x .alternate),
+      )
+
+  pub walked : {r : Answer} {p′ a′ : List ℕ} → Encoded l w p a r p′ a′ → Walked l w p a r p′ a′
+  unfolding primaryOf alternateOf
+  walked e =
+      let q = e .answer ∙ answer-coded in
+      record { answer = q; primary = rw q at (e .primary); alternate = rw q at (e .alternate) }

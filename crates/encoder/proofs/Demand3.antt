@@ -1,0 +1,71 @@
+-- Demand 3 holds of every trimmed word and limit, and its bound is reached.
+use Prim.Native.Nat.{ℕ, zero, suc, _-_, _*_, _≤_}
+use mathlib.Core.Path.{_≡_, refl, ap, _∙_}
+use mathlib.Core.List.{List}
+use native.Mathlib.Omega.{arith}
+use lib.ListN.{length}
+use Rattle.walk.specs.Walk.{toPrimary, toAlternate}
+use Rattle.walk.specs.Word.{ruleOf, visitsOf}
+use Rattle.walk.specs.Reach.{xz, kxz}
+use Rattle.walk.specs.Fewest.{Fewest}
+use Rattle.walk.proofs.Limit.{fewest, fewest-one}
+use Rattle.walk.proofs.Bound as bound
+use Rattle.walk.proofs.Reach.{length-xz, reached}
+use Rattle.encoder.specs.Trim.{keep, trimEnd, trimmed, firstHigh}
+use Rattle.encoder.specs.Encode.{wordLimit, primaryOf, alternateOf, visitsUnder}
+use Rattle.encoder.proofs.Trim.{keep-any}
+use Rattle.encoder.proofs.Codes.{cut-at}
+use Rattle.encoder.specs.declared.Limit.the-variants.{At}
+use Rattle.encoder.specs.Demand3.{Unlimited, Limited, Reaches}
+
+pub unlimited : (t : List ℕ) → Unlimited t
+unfolding primaryOf alternateOf
+unlimited t =
+    record {
+      primary = refl;
+      alternate = refl;
+      visits = refl;
+      primary-bound = bound.primary-bound t;
+      alternate-bound = bound.alternate-bound t;
+    }
+
+pub limited : (n : ℕ) (t : List ℕ) → Limited n t
+unfolding primaryOf alternateOf
+limited n t =
+    record {
+      primary = cut-at t n .primary;
+      alternate = cut-at t n .alternate;
+      visits = fewest (toPrimary (ruleOf t)) (toAlternate (ruleOf t)) n (visitsOf t);
+    }
+
+-- there is one such number of visits
+pub limited-one : (n k : ℕ) (t : List ℕ) → Fewest (toPrimary (ruleOf t)) (toAlternate (ruleOf t)) (visitsOf t) n k → k ≡ visitsUnder (At n) t
+limited-one n k t f = fewest-one (toPrimary (ruleOf t)) (toAlternate (ruleOf t)) (visitsOf t) n k (visitsUnder (At n) t) f (limited n t .visits)
+
+-- K, X, Z, X, Z, .. is ASCII, and trimmed
+xz-trimmed : (n : ℕ) → trimEnd (xz n) ≡ xz n
+xz-trimmed zero = refl
+xz-trimmed (suc zero) = refl
+xz-trimmed (suc (suc n)) = ap (λ (w : List ℕ). keep 88 (keep 90 w)) (xz-trimmed n) ∙ ap (λ (w : List ℕ). keep 88 w) (keep-any 90 (xz n) refl)
+
+kxz-trimmed : (n : ℕ) → trimmed (kxz n) ≡ kxz n
+unfolding trimmed
+kxz-trimmed n = ap (λ (w : List ℕ). keep 75 w) (xz-trimmed n) ∙ keep-any 75 (xz n) refl
+
+xz-ascii : (n : ℕ) → firstHigh (xz n) ≡ length (xz n)
+xz-ascii zero = refl
+xz-ascii (suc zero) = refl
+xz-ascii (suc (suc n)) = ap (λ (k : ℕ). suc (suc k)) (xz-ascii n)
+
+pub reaches : (t : ℕ) → 1 ≤ t → t ≤ wordLimit → (w : List ℕ) × Reaches t w
+unfolding alternateOf
+reaches zero l h = absurd (omega arith)
+reaches (suc n) l h = (
+  kxz n,
+  record {
+    fits = omega (arith, length-xz n);
+    ascii = ap suc (xz-ascii n);
+    long = ap length (kxz-trimmed n) ∙ ap suc (length-xz n);
+    reached = rw (kxz-trimmed n) (reached n ∙ ap (λ (k : ℕ). 2 * suc k - 1) (length-xz n));
+  },
+)

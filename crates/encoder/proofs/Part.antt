@@ -1,0 +1,33 @@
+-- After an accepted call the part that is handed back is the chosen code.
+use Prim.Native.Nat.{ℕ}
+use mathlib.Core.Path.{_≡_, sym, ap, _∙_}
+use mathlib.Core.List.{List}
+use native.Mathlib.Omega.{arith}
+use borrow.Author.Tests.{le-leb}
+use lib.ListN.{length, drop, length-append}
+use lib.Seq.{take-append-seam}
+use Rattle.encoder.specs.declared.Limit.{Limit}
+use Rattle.encoder.specs.declared.Choice.{Choice}
+use Rattle.encoder.specs.declared.Choice.the-variants.{Primary, Alternate}
+use Rattle.encoder.specs.declared.Answer.{Answer}
+use Rattle.encoder.specs.declared.Answer.the-variants.{Coded}
+use Rattle.encoder.specs.Trim.{trimmed}
+use Rattle.encoder.specs.Encode.{numberOf, primaryLength, alternateLength, primaryOf, alternateOf, filled, Encoded}
+use Rattle.encoder.specs.Demand2.{Walked}
+use Rattle.encoder.specs.Chosen.{frontOf, chosenOf, codeOf}
+use Rattle.encoder.proofs.Demand2.{accepted, walked}
+
+-- a code at the front of its buffer is handed back
+front-filled : (code buf : List ℕ) (n : ℕ) → length code ≡ n → frontOf n (filled code buf) ≡ code
+front-filled code buf n e =
+    rw (← e, le-leb (length code) (length (filled code buf)) (omega (arith, length-append code (drop (length code) buf))))
+    (take-append-seam code (drop (length code) buf))
+
+pub chosen-code : {l : Limit} {w p a p′ a′ : List ℕ} {r : Answer} → Encoded l w p a r p′ a′ → (c : Choice) (np na n : ℕ) → r ≡ Coded np na n
+    → chosenOf c p′ np a′ na ≡ codeOf l c w
+unfolding primaryOf alternateOf
+chosen-code {l} {w} {p} {a} {p′} {a′} {r} e c np na n q = go c (walked (accepted e (ap numberOf q)) e)
+  where
+    go : (c : Choice) → Walked l w p a r p′ a′ → chosenOf c p′ np a′ na ≡ codeOf l c w
+    go Primary x = rw (x .primary) (front-filled (primaryOf l (trimmed w)) p np (ap primaryLength (sym (x .answer) ∙ q)))
+    go Alternate x = rw (x .alternate) (front-filled (alternateOf l (trimmed w)) a na (ap alternateLength (sym (x .answer) ∙ q)))

@@ -1,0 +1,13 @@
+-- The encoder.
+--     Trim      what is asked of a word before its walk: ASCII, and its trimmed part
+--     Encode    what `encode` promises: the answer and both buffers, for every input
+--     Chosen    the chosen code as a part of its buffer
+--     Table     document 01's table: each number exactly when
+--     Demand2   what an accepted word gets
+--     Demand3   the codes under a limit, the visits, the bound
+pub mod Trim
+pub mod Encode
+pub mod Chosen
+pub mod Table
+pub mod Demand2
+pub mod Demand3

@@ -1,0 +1,202 @@
+// The encoder: refuses what it must, trims the word, and lends the inner part and both buffers to the walk.
+ghost use mathlib.Core.Path.{_≡_};
+ghost use Prim.Native.Nat.{_≤_};
+ghost use lib.ListN.{length, take, drop};
+ghost use Rattle.encoder.specs.Trim.{blank, trimStart, trimEnd, isAscii, firstHigh};
+ghost use Rattle.encoder.specs.Encode.{wordLimit, encoderOf, defaultLimit, needOf, capOf, Encoded};
+ghost use Rattle.encoder.specs.Chosen.{frontOf, chosenOf};
+
+// The longest word that is taken, before trimming.
+pub const WORD_LIMIT: usize = 1024;
+
+// How many bytes a code may have.
+pub enum Limit {
+    Whole,
+    At(usize),
+}
+
+// The answers 0 to 4 of document 01, in its order; the place is that of the first byte that is no ASCII.
+pub enum Answer {
+    Coded {
+        primary: usize,
+        alternate: usize,
+        visits: usize,
+    },
+    TooLong,
+    NotAscii(usize),
+    PrimaryShort,
+    AlternateShort,
+}
+
+pub enum Choice {
+    Primary,
+    Alternate,
+}
+
+pub struct Encoder {
+    pub limit: Limit,
+}
+
+// Bytes 9 to 13 and 32.
+fn is_blank(b: u8) -> bool
+    ensures { λ r. ⌜ r ≡ blank b ⌝ }
+{
+    match b {
+        32 => true,
+        9..=13 => true,
+        _ => false,
+    }
+}
+
+// Whether no byte is 128 or more. Every byte is read, since a loop with one way out is made into wide steps.
+fn is_ascii(w: &[u8]) -> bool
+    ensures { λ r. ⌜ r ≡ isAscii (now (w .entry)) ⌝ }
+{
+    let mut high = false;
+    let mut i = 0;
+    while i < w.len() {
+        high = high | (128 <= w[i]);
+        i += 1;
+    }
+    !high
+}
+
+// The place of the first byte of 128 or more, and the length where there is none.
+fn first_high(w: &[u8]) -> usize
+    ensures { λ r. ⌜ r ≡ firstHigh (now (w .entry)) ⌝ }
+{
+    let mut i = 0;
+    while i < w.len() {
+        if 128 <= w[i] {
+            return i;
+        }
+        i += 1;
+    }
+    i
+}
+
+// Where the trimmed word starts.
+fn front(w: &[u8]) -> usize
+    ensures within { λ r. ⌜ r ≤ length (now (w .entry)) ⌝ }
+    ensures start { λ r. ⌜ drop r (now (w .entry)) ≡ trimStart (now (w .entry)) ⌝ }
+{
+    let mut i = 0;
+    while i < w.len() {
+        if !is_blank(w[i]) {
+            return i;
+        }
+        i += 1;
+    }
+    i
+}
+
+// Where it ends.
+fn back(w: &[u8]) -> usize
+    ensures within { λ r. ⌜ r ≤ length (now (w .entry)) ⌝ }
+    ensures end { λ r. ⌜ take r (now (w .entry)) ≡ trimEnd (now (w .entry)) ⌝ }
+{
+    let mut e = w.len();
+    while 0 < e {
+        if !is_blank(w[e - 1]) {
+            return e;
+        }
+        e -= 1;
+    }
+    e
+}
+
+// The room that each buffer must have for a trimmed word of t bytes.
+fn need_of(limit: Limit, t: usize) -> usize
+    requires { ⌜ t ≤ wordLimit ⌝ }
+    ensures { λ r. ⌜ r ≡ needOf limit t ⌝ }
+{
+    if t == 0 {
+        return 0;
+    }
+    match limit {
+        Limit::Whole => 2 * t - 1,
+        Limit::At(n) => { if n < 2 * t - 1 { n } else { 2 * t - 1 } }
+    }
+}
+
+// The limit that the walk is given: with none, more bytes than a code of t bytes has.
+fn cap_of(limit: Limit, t: usize) -> usize
+    requires { ⌜ t ≤ wordLimit ⌝ }
+    ensures { λ r. ⌜ r ≡ capOf limit t ⌝ }
+{
+    match limit {
+        Limit::Whole => 2 * t,
+        Limit::At(n) => n,
+    }
+}
+
+impl Encoder {
+    pub const DEFAULT_LIMIT: usize = 4;
+
+    pub fn new(limit: Limit) -> Self
+        ensures { λ r. ⌜ r ≡ encoderOf limit ⌝ }
+    {
+        Self { limit: limit }
+    }
+
+    pub fn default() -> Self
+        ensures { λ r. ⌜ r ≡ encoderOf (Limit.At defaultLimit) ⌝ }
+    {
+        Self {
+            limit: Limit::At(Encoder::DEFAULT_LIMIT),
+        }
+    }
+
+    // The checks run in document 01's order, on the word as it is lent; only then is it trimmed and walked.
+    pub fn encode(self, word: &[u8], primary: &mut [u8], alternate: &mut [u8]) -> Answer
+        ensures { λ r. ⌜ Encoded (self .limit) (now (word .entry)) (now (primary .entry)) (now (alternate .entry)) r (now (primary .exit)) (now (alternate .exit)) ⌝ }
+    {
+        let limit = self.limit;
+        if WORD_LIMIT < word.len() {
+            return Answer::TooLong;
+        }
+        if !is_ascii(word) {
+            return Answer::NotAscii(first_high(word));
+        }
+        let from = front(word);
+        let len = back(&word[from..]);
+        let end = from + len;
+        let need = need_of(limit, len);
+        if primary.len() < need {
+            return Answer::PrimaryShort;
+        }
+        if alternate.len() < need {
+            return Answer::AlternateShort;
+        }
+        let cap = cap_of(limit, len);
+        let tally = walk::walk(&word[from..end], cap, primary, alternate);
+        Answer::Coded {
+            primary: tally.primary,
+            alternate: tally.alternate,
+            visits: tally.visits,
+        }
+    }
+}
+
+// The first n bytes of a buffer, and none where it has fewer.
+fn front_of(buf: &[u8], n: usize) -> &[u8]
+    ensures { λ r. ⌜ now r ≡ frontOf n (now (buf .entry)) ⌝ }
+{
+    if n <= buf.len() { &buf[..n] } else { &buf[..0] }
+}
+
+// The chosen code, as a part of the buffer it lies in.
+pub fn chosen<'a>(
+    choice: Choice,
+    primary: &'a [u8],
+    primary_length: usize,
+    alternate: &'a [u8],
+    alternate_length: usize,
+) -> &'a [u8]
+    ensures { λ r. ⌜ now r ≡ chosenOf choice (now (primary .entry)) «primary_length» (now (alternate .entry)) «alternate_length» ⌝ }
+{
+    match choice {
+        Choice::Primary => front_of(primary, primary_length),
+        Choice::Alternate => front_of(alternate, alternate_length),
+    }
+}

@@ -1,9 +1,9 @@
 -- Laws of the encoder.
---     High       the search for a byte that is no ASCII; `first-high`: the place reported is the first
+--     High       the search for a byte that is no ASCII; `any-is-first`, `first-high`: the place reported is the first
 --     Trim       trimming; `between-blanks`: the trimmed word is what lies between the blanks
 --     Codes      the walk under `capOf` is the definition's, and fits what is needed
 --     Answers    each return of `encode`, from the tests that lead to it
---     Table      `table`: demand 1's refusals, each exactly when
+--     Table      `table`, `unchanged`: demand 1's refusals, each exactly when, and what they leave
 --     Demand2    `accepted`, `walked`: demand 2
 --     Demand3    `unlimited`, `limited`, `limited-one`, `reaches`: demand 3
 --     Part       `chosen-code`: after an accepted call the part handed back is the chosen code

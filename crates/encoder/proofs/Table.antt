@@ -1,5 +1,5 @@
--- Document 01's table: each number is given exactly when it says.
-use Prim.Native.Nat.{ℕ, _≤_, _<_}
+-- Document 01's table: each number is given exactly when it says, and a refusal changes nothing.
+use Prim.Native.Nat.{ℕ, zero, suc, _≤_, _<_}
 use mathlib.Core.Path.{_≡_, refl}
 use mathlib.Core.List.{List}
 use mathlib.Core.Bool.{Bool, true, false, cond}
@@ -11,7 +11,7 @@ use Rattle.encoder.specs.declared.Limit.{Limit}
 use Rattle.encoder.specs.declared.Answer.{Answer}
 use Rattle.encoder.specs.declared.Answer.the-variants.{Coded, TooLong, NotAscii, PrimaryShort, AlternateShort}
 use Rattle.encoder.specs.Trim.{trimmed, firstHigh}
-use Rattle.encoder.specs.Encode.{wordLimit, needOf, Encoded}
+use Rattle.encoder.specs.Encode.{wordLimit, numberOf, needOf, leftBy, Encoded}
 use Rattle.encoder.specs.Table.{Given}
 
 -- by its four tests
@@ -35,3 +35,11 @@ table {l} {w} {p} {a} x =
     rw (x .answer)
     (by-tests (length w) (firstHigh w) (length p) (length a) (needOf l (length (trimmed w))) _ _ _ (ltb wordLimit (length w)) refl
     (ltb (firstHigh w) (length w)) refl (ltb (length p) (needOf l (length (trimmed w)))) refl (ltb (length a) (needOf l (length (trimmed w)))) refl)
+
+-- a refusal changes neither buffer
+left-refused : (number : ℕ) (code : List ℕ) {buf buf′ : List ℕ} → 0 < number → buf′ ≡ leftBy number code buf → buf′ ≡ buf
+left-refused zero code h e = absurd (omega arith)
+left-refused (suc n) code h e = e
+
+pub unchanged : {l : Limit} {w p a : List ℕ} {r : Answer} {p′ a′ : List ℕ} → Encoded l w p a r p′ a′ → 0 < numberOf r → (p′ ≡ p) × (a′ ≡ a)
+unchanged {r = r} x h = (left-refused (numberOf r) _ h (x .primary), left-refused (numberOf r) _ h (x .alternate))

@@ -1,6 +1,6 @@
 -- Document 01's table under "What the caller gets": "Given exactly when" and "Returns" of each number, for a word of n bytes whose
 -- first high byte is at `high` (n where it has none), buffers of p and a bytes, and what is needed. Theorem `table` of
--- proofs/Table.antt shows it of all that `encode` promises; what a call leaves in the buffers is in Encode.antt, `leftBy`.
+-- proofs/Table.antt shows it of all that `encode` promises, and theorem `unchanged` that a refusal leaves the buffers untouched.
 use Prim.Native.Nat.{ℕ, _≤_, _<_}
 use mathlib.Core.Path.{_≡_}
 use mathlib.Core.Logic.{_↔_}

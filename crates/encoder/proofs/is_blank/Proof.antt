@@ -8,13 +8,13 @@ returns : tie.Need-returns
 returns c = simp (c .match .keys1)
 
 returns-2 : tie.Need-returns-2
-returns-2 c = simp (le-leb 9 (c .before .before .before .args .b) (c .before .if1 .left), le-leb (c .before .before .before .args .b) 13 (omega arith))
+returns-2 c = simp (le-leb 9 (c .before .before .before .args .b) (omega arith), le-leb (c .before .before .before .args .b) 13 (omega arith))
 
 returns-3 : tie.Need-returns-3
-returns-3 c = simp (lt-leb 9 (c .before .before .args .b) (c .if1 .taken), ne-eqb _ _ (c .before .match .rest .1))
+returns-3 c = simp (lt-leb 9 (c .before .before .args .b) (omega arith), ne-eqb _ _ (c .before .match .rest .1))
 
 returns-4 : tie.Need-returns-4
-returns-4 c = simp (le-leb 9 (c .before .before .before .args .b) (c .before .if1 .left), lt-leb (c .before .before .before .args .b) 13 (omega arith), ne-eqb _ _ (c .before .before .match .rest .1))
+returns-4 c = simp (le-leb 9 (c .before .before .before .args .b) (omega arith), lt-leb (c .before .before .before .args .b) 13 (omega arith), ne-eqb _ _ (c .before .before .match .rest .1))
 
 pub is-blank-spec : {M : Type 1} → statement M
 is-blank-spec = tie.close (tie.spec returns returns-2 returns-3 returns-4)

@@ -33,7 +33,7 @@ sub-result-2 : tie.Need-sub-result-2
 sub-result-2 c = search needs
 
 returns-2 : tie.Need-returns-2
-returns-2 c = rw (c .enum-told .given .1)
+returns-2 c = rw (c .enum-told .given .1) (omega arith)
 
 returns-3 : tie.Need-returns-3
 returns-3 c = rw (c .before .before .limit .given .1) (omega arith)

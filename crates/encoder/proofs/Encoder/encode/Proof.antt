@@ -30,7 +30,7 @@ first-high-requires c κs = search needs
 returns-2 : tie.Need-returns-2
 returns-2 c =
     let a = c .before .before .before .before .before .before .before .args in
-    not-ascii (a .self .limit) (now (a .word)) (now (a .primary)) (now (a .alternate)) (c .before .before .before .if1 .left) (c .first-high .result)
+    not-ascii (a .self .limit) (now (a .word)) (now (a .primary)) (now (a .alternate)) (omega arith) (c .first-high .result)
     (c .first-high .ensures) (sym (c .before .before .is-ascii .ensures) ∙ not-true _ (c .before .if2 .taken))
 
 front-requires : tie.Need-front-requires

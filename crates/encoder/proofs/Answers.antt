@@ -1,6 +1,6 @@
 -- The encoder's answers, from what its tests show.
 use Prim.Native.Nat.{ℕ, _≤_, _<_}
-use mathlib.Core.Path.{_≡_, refl, sym, ap, _∙_}
+use mathlib.Core.Path.{_≡_, refl, sym, ap, subst, _∙_}
 use mathlib.Core.List.{List}
 use mathlib.Core.Bool.{true, false}
 use native.Mathlib.Omega.{arith}
@@ -15,13 +15,19 @@ use Rattle.encoder.specs.declared.Answer.the-variants.{TooLong, NotAscii
 use Rattle.encoder.specs.declared.Answer.the-variants
 use Rattle.encoder.specs.Trim.{trimmed, isAscii, firstHigh}
 use Rattle.encoder.specs.Encode.{wordLimit, numberOf, needOf, capOf, primaryOf, alternateOf, visitsUnder, codedOf, answerOf, leftBy, Encoded}
+use Rattle.encoder.specs.Table.{Given}
+use Rattle.encoder.proofs.Given.{answer-given}
 use Rattle.encoder.proofs.High.{ascii-none, ascii-all}
 use Rattle.encoder.proofs.Codes.{primary-capped, alternate-capped, visits-capped, primary-fits, alternate-fits}
 
--- the buffers are as the answer r leaves them
 module _ (l : Limit) (w p a : List ℕ) where
+  given-for : (r : Answer) → answerOf l w (length p) (length a) ≡ r → Given (length w) (firstHigh w) (length p) (length a) (needOf l (length (trimmed w))) r
+  given-for r e =
+      subst (λ (q : Answer). Given (length w) (firstHigh w) (length p) (length a) (needOf l (length (trimmed w))) q) e (answer-given l w (length p) (length a))
+
+  -- the buffers are as the answer r leaves them
   settled : (r : Answer) → answerOf l w (length p) (length a) ≡ r → Encoded l w p a r (leftBy (numberOf r) (primaryOf l (trimmed w)) p) (leftBy (numberOf r) (alternateOf l (trimmed w)) a)
-  settled r e = record { answer = sym e; primary = refl; alternate = refl }
+  settled r e = record { given = given-for r e; answer = sym e; primary = refl; alternate = refl }
 
   pub too-long : wordLimit < length w → Encoded l w p a TooLong p a
   too-long h = settled TooLong (rw (lt-ltb wordLimit (length w) h))
@@ -64,8 +70,12 @@ module _ (l : Limit) (w p a : List ℕ) where
               let y : tallyOf (limitedOf cap part) ≡ record { primary = length (primaryOf l (trimmed w)); alternate = length (alternateOf l (trimmed w)); visits = visitsUnder l (trimmed w) } =
               λ i. record { primary = length (primary-is i); alternate = length (alternate-is i); visits = visits-are i }
               in
+              let z : the-variants.Coded (r .primary) (r .alternate) (r .visits) ≡ answerOf l w (length p) (length a) =
+              ap (λ (q : Tally). the-variants.Coded (q .primary) (q .alternate) (q .visits)) (tr ∙ y) ∙ sym x
+              in
               record {
-                answer = ap (λ (q : Tally). the-variants.Coded (q .primary) (q .alternate) (q .visits)) (tr ∙ y) ∙ sym x;
+                given = given-for _ (sym z);
+                answer = z;
                 primary = tp ∙ ap (λ (q : List ℕ). filled q p) primary-is;
                 alternate = ta ∙ ap (λ (q : List ℕ). filled q a) alternate-is;
               }

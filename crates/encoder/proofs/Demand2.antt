@@ -11,7 +11,6 @@ use Rattle.encoder.specs.Trim.{trimmed, firstHigh}
 use Rattle.encoder.specs.Encode.{wordLimit, numberOf, needOf, primaryOf, alternateOf, codedOf, answerOf, Encoded}
 use Rattle.encoder.specs.Demand2.{Taken, Accepted, Walked}
 use Rattle.encoder.proofs.High.{first-high, no-high}
-use Rattle.encoder.proofs.Table.{table}
 
 -- a word that neither refusal's test finds is taken
 pub taken-by : (w : List ℕ) → length w ≤ wordLimit → length w ≤ firstHigh w → Taken w
@@ -20,7 +19,7 @@ taken-by w f h = record { fits = f; ascii = λ k l. first-high w .before k (omeg
 -- where no refusal is given the word is accepted
 pub accepted : {l : Limit} {w p a : List ℕ} {r : Answer} {p′ a′ : List ℕ} → Encoded l w p a r p′ a′ → numberOf r ≡ 0 → Accepted l w p a
 accepted {w = w} e h =
-    let g = table e .accepted .0 h in
+    let g = e .given .accepted .0 h in
     record { taken = taken-by w (g .0) (g .1); primary = g .2; alternate = g .3 }
 
 module _ {l : Limit} {w p a : List ℕ} (x : Accepted l w p a) where

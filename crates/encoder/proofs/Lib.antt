@@ -2,8 +2,9 @@
 --     High       the search for a byte that is no ASCII; `any-is-first`, `first-high`: the place reported is the first
 --     Trim       trimming; `between-blanks`: the trimmed word is what lies between the blanks
 --     Codes      the walk under `capOf` is the definition's, and fits what is needed
+--     Given      document 01's table holds of the definition's answer
 --     Answers    each return of `encode`, from the tests that lead to it
---     Table      `table`, `unchanged`: demand 1's refusals, each exactly when, and what they leave
+--     Table      `unchanged`: a refusal changes neither buffer
 --     Demand2    `accepted`, `walked`: demand 2
 --     Demand3    `unlimited`, `limited`, `limited-one`, `reaches`: demand 3
 --     Part       `chosen-code`: after an accepted call the part handed back is the chosen code
@@ -11,6 +12,7 @@
 pub mod High
 pub mod Trim
 pub mod Codes
+pub mod Given
 pub mod Answers
 pub mod Table
 pub mod Demand2

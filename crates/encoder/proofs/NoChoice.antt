@@ -1,14 +1,10 @@
 -- No public function's promise leaves a choice: for the same arguments, any two results that it admits are equal, and so are the
 -- lent buffers at exit. Of the part that `chosen` hands back, its bytes. Assumes nothing.
-use mathlib.Core.Path.{_≡_, sym, ap, _∙_}
-use Prim.Native.Nat.{ℕ}
+use mathlib.Core.Path.{_≡_, sym, _∙_}
 use borrow.Fn.Kinds.{Dens, resT, endedOf}
-use contract.Lifetimes.{Lfts}
 use denote.Ref.{now}
 use denote.Triple.Clauses.{AtExit}
 use Rattle.windows.proofs.Choice.{OneResult}
-use Rattle.encoder.specs.declared.Answer.{Answer}
-use Rattle.encoder.specs.Encode.{numberOf}
 use Rattle.encoder.proofs.Encoder.new.Kinds as new-kinds
 use Rattle.encoder.proofs.Encoder.new.Reads as new
 use Rattle.encoder.proofs.Encoder.default.Kinds as default-kinds
@@ -17,6 +13,7 @@ use Rattle.encoder.proofs.Encoder.encode.Kinds as encode-kinds
 use Rattle.encoder.proofs.Encoder.encode.Reads as encode
 use Rattle.encoder.proofs.chosen.Kinds as chosen-kinds
 use Rattle.encoder.proofs.chosen.Reads as chosen
+use contract.Lifetimes.{Lfts}
 
 pub one-new : OneResult new-kinds.ps new-kinds.r new.Post
 one-new κs a x y s t p q = p ∙ sym q

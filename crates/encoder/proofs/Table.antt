@@ -1,40 +1,11 @@
--- Document 01's table: each number is given exactly when it says, and a refusal changes nothing.
-use Prim.Native.Nat.{ℕ, zero, suc, _≤_, _<_}
-use mathlib.Core.Path.{_≡_, refl}
+-- A refusal changes nothing. Assumes nothing.
+use Prim.Native.Nat.{ℕ, zero, suc, _<_}
+use mathlib.Core.Path.{_≡_}
 use mathlib.Core.List.{List}
-use mathlib.Core.Bool.{Bool, true, false, cond}
 use native.Mathlib.Omega.{arith}
-use borrow.Author.Tests.{ltb-true, ltb-false}
-use lib.Dec.{ltb}
-use lib.ListN.{length}
 use Rattle.encoder.specs.declared.Limit.{Limit}
 use Rattle.encoder.specs.declared.Answer.{Answer}
-use Rattle.encoder.specs.declared.Answer.the-variants.{Coded, TooLong, NotAscii, PrimaryShort, AlternateShort}
-use Rattle.encoder.specs.Trim.{trimmed, firstHigh}
-use Rattle.encoder.specs.Encode.{wordLimit, numberOf, needOf, leftBy, Encoded}
-use Rattle.encoder.specs.Table.{Given}
-
--- by its four tests
-module _ (n high p a need x y z : ℕ) where
-  by-tests : (q₁ : Bool) → ltb wordLimit n ≡ q₁ → (q₂ : Bool) → ltb high n ≡ q₂ → (q₃ : Bool) → ltb p need ≡ q₃ → (q₄ : Bool) → ltb a need ≡ q₄
-      → Given n high p a need (cond q₁ TooLong (cond q₂ (NotAscii high) (cond q₃ PrimaryShort (cond q₄ AlternateShort (Coded x y z)))))
-  by-tests true e q₂ f q₃ g q₄ h = let i : wordLimit < n = ltb-true _ _ e in omega arith
-  by-tests false e true f q₃ g q₄ h = let i : n ≤ wordLimit = ltb-false _ _ e in let j : high < n = ltb-true _ _ f in omega arith
-  by-tests false e false f true g q₄ h =
-      let i : n ≤ wordLimit = ltb-false _ _ e in let j : n ≤ high = ltb-false _ _ f in let k : p < need = ltb-true _ _ g in omega arith
-  by-tests false e false f false g true h =
-      let i : n ≤ wordLimit = ltb-false _ _ e in let j : n ≤ high = ltb-false _ _ f in
-      let k : need ≤ p = ltb-false _ _ g in let m : a < need = ltb-true _ _ h in omega arith
-  by-tests false e false f false g false h =
-      let i : n ≤ wordLimit = ltb-false _ _ e in let j : n ≤ high = ltb-false _ _ f in
-      let k : need ≤ p = ltb-false _ _ g in let m : need ≤ a = ltb-false _ _ h in omega arith
-
-pub table : {l : Limit} {w p a : List ℕ} {r : Answer} {p₁ a₁ : List ℕ} → Encoded l w p a r p₁ a₁
-    → Given (length w) (firstHigh w) (length p) (length a) (needOf l (length (trimmed w))) r
-table {l} {w} {p} {a} x =
-    rw (x .answer)
-    (by-tests (length w) (firstHigh w) (length p) (length a) (needOf l (length (trimmed w))) _ _ _ (ltb wordLimit (length w)) refl
-    (ltb (firstHigh w) (length w)) refl (ltb (length p) (needOf l (length (trimmed w)))) refl (ltb (length a) (needOf l (length (trimmed w)))) refl)
+use Rattle.encoder.specs.Encode.{numberOf, leftBy, Encoded}
 
 -- a refusal changes neither buffer
 left-refused : (number : ℕ) (code : List ℕ) {buf buf′ : List ℕ} → 0 < number → buf′ ≡ leftBy number code buf → buf′ ≡ buf

@@ -1,6 +1,6 @@
 -- What `encode` promises: its answer for every word, limit and room, and what it leaves in both buffers, after document
--- 01's "What the caller gets". proofs/Table.antt shows that each number is given exactly when the table says,
--- proofs/NoChoice.antt that nothing is left open, and proofs/Demand2.antt what an accepted word gets.
+-- 01's "What the caller gets". proofs/NoChoice.antt shows that nothing is left open, and proofs/Demand2.antt what an accepted word
+-- gets.
 use Prim.Native.Nat.{ℕ, zero, suc, _-_, _*_, min}
 use mathlib.Core.Path.{_≡_}
 use mathlib.Core.List.{List}
@@ -8,6 +8,7 @@ use mathlib.Core.Bool.{cond}
 use lib.Dec.{ltb}
 use lib.ListN.{length}
 pub use Rattle.walk.specs.Walk.{filled}
+pub use Rattle.encoder.specs.Numbers.{wordLimit, numberOf, placeOf, primaryLength, alternateLength, visitCount}
 use Rattle.walk.specs.Walk as walk
 use Rattle.walk.specs.Word.{wholeOf, limitedOf}
 use Rattle.encoder.specs.declared.Limit.{Limit}
@@ -16,10 +17,7 @@ use Rattle.encoder.specs.declared.Encoder.{Encoder}
 use Rattle.encoder.specs.declared.Answer.{Answer}
 use Rattle.encoder.specs.declared.Answer.the-variants.{Coded, TooLong, NotAscii, PrimaryShort, AlternateShort}
 use Rattle.encoder.specs.Trim.{trimmed, firstHigh}
-
--- the bytes that a word may have, before trimming
-abbrev pub wordLimit : ℕ
-wordLimit = 1024
+use Rattle.encoder.specs.Table.{Given}
 
 -- "the default limit, 4, belongs to the encoder"
 abbrev pub defaultLimit : ℕ
@@ -27,42 +25,6 @@ defaultLimit = 4
 
 abbrev pub encoderOf : Limit → Encoder
 encoderOf l = record { limit = l }
-
--- document 01's number of an answer, the place, both lengths and the visits
-abbrev pub numberOf : Answer → ℕ
-numberOf (Coded p a v) = 0
-numberOf TooLong = 1
-numberOf (NotAscii at) = 2
-numberOf PrimaryShort = 3
-numberOf AlternateShort = 4
-
-abbrev pub placeOf : Answer → ℕ
-placeOf (Coded p a v) = 0
-placeOf TooLong = 0
-placeOf (NotAscii at) = at
-placeOf PrimaryShort = 0
-placeOf AlternateShort = 0
-
-abbrev pub primaryLength : Answer → ℕ
-primaryLength (Coded p a v) = p
-primaryLength TooLong = 0
-primaryLength (NotAscii at) = 0
-primaryLength PrimaryShort = 0
-primaryLength AlternateShort = 0
-
-abbrev pub alternateLength : Answer → ℕ
-alternateLength (Coded p a v) = a
-alternateLength TooLong = 0
-alternateLength (NotAscii at) = 0
-alternateLength PrimaryShort = 0
-alternateLength AlternateShort = 0
-
-abbrev pub visitCount : Answer → ℕ
-visitCount (Coded p a v) = v
-visitCount TooLong = 0
-visitCount (NotAscii at) = 0
-visitCount PrimaryShort = 0
-visitCount AlternateShort = 0
 
 -- 2t - 1 for a trimmed word of t bytes (0 for none), or the limit if that is smaller
 abbrev pub needOf : Limit → ℕ → ℕ
@@ -107,8 +69,10 @@ abbrev pub leftBy : ℕ → List ℕ → List ℕ → List ℕ
 leftBy zero code buf = filled code buf
 leftBy (suc refusal) code buf = buf
 
--- what `encode` promises of the word w, its answer r, and its buffers before (p, a) and after (p′, a′)
+-- what `encode` promises of the word w, its answer r, and its buffers before (p, a) and after (p′, a′): document 01's table, the
+-- answer itself, and each buffer
 pub record Encoded (l : Limit) (w p a : List ℕ) (r : Answer) (p′ a′ : List ℕ) : Type 0 where
+  pub given : Given (length w) (firstHigh w) (length p) (length a) (needOf l (length (trimmed w))) r
   pub answer : r ≡ answerOf l w (length p) (length a)
   pub primary : p′ ≡ leftBy (numberOf r) (primaryOf l (trimmed w)) p
   pub alternate : a′ ≡ leftBy (numberOf r) (alternateOf l (trimmed w)) a

@@ -1,11 +1,11 @@
 -- Document 01's table under "What the caller gets": "Given exactly when" and "Returns" of each number, for a word of n bytes whose
--- first high byte is at `high` (n where it has none), buffers of p and a bytes, and what is needed. Theorem `table` of
--- proofs/Table.antt shows it of all that `encode` promises, and theorem `unchanged` that a refusal leaves the buffers untouched.
+-- first high byte is at `high` (n where it has none), buffers of p and a bytes, and what is needed. It is part of
+-- what `encode` promises (Encode.antt); theorem `unchanged` of proofs/Table.antt: a refusal leaves the buffers untouched.
 use Prim.Native.Nat.{ℕ, _≤_, _<_}
 use mathlib.Core.Path.{_≡_}
 use mathlib.Core.Logic.{_↔_}
 use Rattle.encoder.specs.declared.Answer.{Answer}
-use Rattle.encoder.specs.Encode.{wordLimit, numberOf, placeOf, primaryLength, alternateLength, visitCount}
+use Rattle.encoder.specs.Numbers.{wordLimit, numberOf, placeOf, primaryLength, alternateLength, visitCount}
 
 pub record Given (n high p a need : ℕ) (r : Answer) : Type 0 where
   pub one : (numberOf r ≡ 1) ↔ (wordLimit < n)

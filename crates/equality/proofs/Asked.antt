@@ -15,7 +15,6 @@ use Rattle.encoder.specs.Trim.{trimmed, firstHigh}
 use Rattle.encoder.specs.Encode.{wordLimit, encoderOf, numberOf, needOf, Encoded}
 use Rattle.encoder.specs.Chosen.{chosenOf, codeOf}
 use Rattle.encoder.proofs.Trim.{trimmed-length}
-use Rattle.encoder.proofs.Table.{table}
 use Rattle.encoder.proofs.Part.{chosen-code}
 use Rattle.encoder.specs.declared.Choice.{Choice}
 use Rattle.equality.specs.declared.Verdict.{Verdict}
@@ -56,10 +55,10 @@ module _ {l : Limit} {w p a p′ a′ : List ℕ} {r : Answer} (e : Encoded l w 
   -- with room for any code neither buffer is too short
   module _ (room : 2 * wordLimit - 1 ≤ length p) (room′ : 2 * wordLimit - 1 ≤ length a) where
     pub never-three : numberOf r ≡ 3 → ⊥
-    never-three h = let g = table e .three .0 h in omega (arith, g, need-at-most l (length (trimmed w)), trimmed-length w)
+    never-three h = let g = e .given .three .0 h in omega (arith, g, need-at-most l (length (trimmed w)), trimmed-length w)
 
     pub never-four : numberOf r ≡ 4 → ⊥
-    never-four h = let g = table e .four .0 h in omega (arith, g, need-at-most l (length (trimmed w)), trimmed-length w)
+    never-four h = let g = e .given .four .0 h in omega (arith, g, need-at-most l (length (trimmed w)), trimmed-length w)
 
 -- the part that is handed back after an accepted call of the encoder x, made with the limit l
 pub part-is : {x : Encoder} {l : Limit} {w p a p′ a′ part : List ℕ} {r : Answer} → x ≡ encoderOf l → Encoded (x .limit) w p a r p′ a′

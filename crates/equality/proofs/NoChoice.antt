@@ -5,4 +5,4 @@ use Rattle.equality.proofs.equal.Kinds as equal-kinds
 use Rattle.equality.proofs.equal.Reads as equal
 
 pub one-equal : OneResult equal-kinds.ps equal-kinds.r equal.Post
-one-equal κs a x y s t p q = p ∙ sym q
+one-equal κs a x y s t p q = p .answer ∙ sym (q .answer)

@@ -1,6 +1,6 @@
 -- The equality question's answers: when each is given, and what a comparison of two accepted words says.
 use Prim.Native.Nat.{ℕ, _≤_, _<_}
-use mathlib.Core.Path.{_≡_, refl, sym, ap, _∙_}
+use mathlib.Core.Path.{_≡_, refl, sym, ap, subst, _∙_}
 use mathlib.Core.List.{List, []}
 use mathlib.Core.Logic.{_↔_}
 use mathlib.Core.Bool.{Bool, true, false, cond}
@@ -18,7 +18,7 @@ use Rattle.encoder.proofs.Demand2.{taken-by}
 use Rattle.equality.specs.declared.Verdict.{Verdict}
 use Rattle.equality.specs.declared.Verdict.the-variants.{Equal, Different, TooLong, NotAscii}
 use Rattle.encoder.specs.Chosen.{codeOf}
-use Rattle.equality.specs.Equality.{wordOf, equalOf, sameBytes, unlessRefused, compared, verdictOf}
+use Rattle.equality.specs.Equality.{wordOf, equalOf, sameBytes, unlessRefused, compared, verdictOf, Answered}
 use Rattle.equality.specs.Table.{Told}
 use Rattle.equality.proofs.Bytes.{same-sound, same-whole}
 
@@ -53,6 +53,10 @@ module _ (l : Limit) (c : Choice) (one two : List ℕ) where
   table =
       by-tests (length one) (firstHigh one) (length two) (firstHigh two) (ltb wordLimit (length one)) refl (ltb (firstHigh one) (length one)) refl
       (ltb wordLimit (length two)) refl (ltb (firstHigh two) (length two)) refl (sameBytes (codeOf l c one) (codeOf l c two))
+
+  -- so an answer that is the definition's is as `equal` promises
+  pub answered : {r : Verdict} → r ≡ verdictOf l c one two → Answered l c one two r
+  answered e = record { told = subst (λ (v : Verdict). Told (length one) (firstHigh one) (length two) (firstHigh two) v) (sym e) table; answer = e }
 
   -- the second word is refused only if the first is not
   pub second-after-first : wordOf (verdictOf l c one two) ≡ 2 → Taken one

@@ -1,7 +1,8 @@
 -- The equality question, after document 01's "The first word is checked wholly before the second. The limited codes are
--- compared, and two empty codes are equal." proofs/Table.antt shows when each of its answers is given, and
--- proofs/NoChoice.antt that nothing is left open.
+-- compared, and two empty codes are equal." proofs/NoChoice.antt shows that nothing is left open, and `equal-exactly`,
+-- `two-empty` of proofs/Table.antt what a comparison says.
 use Prim.Native.Nat.{ℕ}
+use mathlib.Core.Path.{_≡_}
 use mathlib.Core.List.{List, [], _∷_}
 use mathlib.Core.Bool.{Bool, true, false, cond, _&&_}
 use lib.Dec.{ltb, eqb}
@@ -11,33 +12,10 @@ use Rattle.encoder.specs.Trim.{firstHigh}
 use Rattle.encoder.specs.Encode.{wordLimit}
 use Rattle.encoder.specs.Chosen.{codeOf}
 use Rattle.encoder.specs.declared.Choice.{Choice}
+pub use Rattle.equality.specs.Numbers.{numberOf, wordOf, placeOf, equalOf}
+use Rattle.equality.specs.Table.{Told}
 use Rattle.equality.specs.declared.Verdict.{Verdict}
 use Rattle.equality.specs.declared.Verdict.the-variants.{Equal, Different, TooLong, NotAscii}
-
--- document 01's number of an answer, the word it speaks of (0 unless it refuses one), its place, and 1 for equal
-abbrev pub numberOf : Verdict → ℕ
-numberOf Equal = 0
-numberOf Different = 0
-numberOf (TooLong which) = 1
-numberOf (NotAscii which at) = 2
-
-abbrev pub wordOf : Verdict → ℕ
-wordOf Equal = 0
-wordOf Different = 0
-wordOf (TooLong which) = which
-wordOf (NotAscii which at) = which
-
-abbrev pub placeOf : Verdict → ℕ
-placeOf Equal = 0
-placeOf Different = 0
-placeOf (TooLong which) = 0
-placeOf (NotAscii which at) = at
-
-abbrev pub equalOf : Verdict → ℕ
-equalOf Equal = 1
-equalOf Different = 0
-equalOf (TooLong which) = 0
-equalOf (NotAscii which at) = 0
 
 -- the same bytes
 abbrev pub sameBytes : List ℕ → List ℕ → Bool
@@ -56,3 +34,8 @@ compared x y = cond (sameBytes x y) Equal Different
 -- the answer: the first word is checked wholly before the second
 abbrev pub verdictOf : Limit → Choice → List ℕ → List ℕ → Verdict
 verdictOf l c one two = unlessRefused 1 one (unlessRefused 2 two (compared (codeOf l c one) (codeOf l c two)))
+
+-- what `equal` promises of its answer r: when each number is given, and the answer itself
+pub record Answered (l : Limit) (c : Choice) (one two : List ℕ) (r : Verdict) : Type 0 where
+  pub told : Told (length one) (firstHigh one) (length two) (firstHigh two) r
+  pub answer : r ≡ verdictOf l c one two

@@ -1,11 +1,11 @@
 -- When each answer of the equality question is given, and what it says, in document 01's numbers: of a first word of n bytes whose
--- first high byte is at `high` (n where it has none), and a second of n′ with `high′`. Theorem `table` of proofs/Table.antt.
+-- first high byte is at `high` (n where it has none), and a second of n′ with `high′`. It is part of what `equal` promises.
 use Prim.Native.Nat.{ℕ, _≤_, _<_}
 use mathlib.Core.Path.{_≡_}
 use mathlib.Core.Logic.{_↔_}
 use Rattle.encoder.specs.Encode.{wordLimit}
 use Rattle.equality.specs.declared.Verdict.{Verdict}
-use Rattle.equality.specs.Equality.{numberOf, wordOf, placeOf, equalOf}
+use Rattle.equality.specs.Numbers.{numberOf, wordOf, placeOf, equalOf}
 
 pub record Told (n high n′ high′ : ℕ) (r : Verdict) : Type 0 where
   pub one-first : ((numberOf r ≡ 1) × (wordOf r ≡ 1)) ↔ (wordLimit < n)

@@ -7,7 +7,7 @@ use encoder::WORD_LIMIT;
 use encoder::chosen;
 ghost use mathlib.Core.Path.{_≡_};
 ghost use Rattle.encoder.specs.Chosen.{codeOf};
-ghost use Rattle.equality.specs.Equality.{sameBytes, compared, unlessRefused, verdictOf};
+ghost use Rattle.equality.specs.Equality.{sameBytes, compared, unlessRefused, Answered};
 
 // A code of any accepted word has room here, whatever the limit.
 const CODE_ROOM: usize = 2 * WORD_LIMIT - 1;
@@ -63,7 +63,7 @@ fn against(limit: Limit, choice: Choice, code: &[u8], two: &[u8]) -> Verdict
 
 // Equal, different, or the first refusal: the first word is checked wholly before the second.
 pub fn equal(limit: Limit, choice: Choice, one: &[u8], two: &[u8]) -> Verdict
-    ensures { λ r. ⌜ r ≡ verdictOf limit choice (now (one .entry)) (now (two .entry)) ⌝ }
+    ensures { λ r. ⌜ Answered limit choice (now (one .entry)) (now (two .entry)) r ⌝ }
 {
     let mut p = [0u8; CODE_ROOM];
     let mut a = [0u8; CODE_ROOM];

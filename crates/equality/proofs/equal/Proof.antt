@@ -10,6 +10,7 @@ use Rattle.encoder.specs.Encode.{numberOf}
 use Rattle.encoder.specs.Chosen.{codeOf}
 use Rattle.equality.specs.Equality.{unlessRefused, compared}
 use Rattle.equality.proofs.Asked.{told, never-three, never-four, part-is}
+use Rattle.equality.proofs.Table.{answered}
 use Rattle.equality.proofs.equal.Statement.{statement}
 use Rattle.equality.proofs.equal.Tie as tie
 
@@ -57,16 +58,17 @@ returns c =
     let a = c .before .before .before .before .before .before .before .before .before .before .before .before .before .before .before .args in
     let e = c .before .before .before .before .before .before .before .before .before .encode .ensures in
     let q = c .before .before .before .before .before .primary .given .1 in
-    c .against .ensures
+    answered _ _ _ _
+    (c .against .ensures
     ∙ ap (λ (x : List ℕ). unlessRefused 2 (now (a .two)) (compared x (codeOf (a .limit) (a .choice) (now (a .two)))))
     (part-is (c .before .before .before .before .before .before .before .before .before .before .before .before .new .ensures) e (a .choice) _ _ _ q (c .before .chosen .ensures))
-    ∙ told e 1 _ (said.Coded _ _ _) q
+    ∙ told e 1 _ (said.Coded _ _ _) q)
 
 returns-2 : tie.Need-returns-2
-returns-2 c = told (c .before .before .before .before .encode .ensures) 1 _ said.TooLong (c .enum-told .given .1)
+returns-2 c = answered _ _ _ _ (told (c .before .before .before .before .encode .ensures) 1 _ said.TooLong (c .enum-told .given .1))
 
 returns-3 : tie.Need-returns-3
-returns-3 c = told (c .before .before .before .before .before .encode .ensures) 1 _ (said.NotAscii _) (c .before .at .given .1)
+returns-3 c = answered _ _ _ _ (told (c .before .before .before .before .before .encode .ensures) 1 _ (said.NotAscii _) (c .before .at .given .1))
 
 returns-4 : tie.Need-returns-4
 returns-4 c = absurd (never-three (c .before .before .before .before .encode .ensures) (omega arith) (omega arith) (ap numberOf (c .enum-told2 .given .1)))

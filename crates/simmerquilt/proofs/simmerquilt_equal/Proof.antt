@@ -23,5 +23,5 @@ simmerquilt-equal-spec =
     let a = e .before .before .before .before .before .args in
     c .tell-verdict .ensures
     ∙ ap verdictNumbers
-    (e .equal .ensures
+    (e .equal .ensures .answer
     ∙ ap₂ (λ (l : Limit) (d : Choice). verdictOf l d (now (a .first)) (now (a .second))) (e .before .before .limit-of .ensures) (e .before .choice-of .ensures))))

@@ -1,14 +1,15 @@
--- The mark, from the end of the word on: what stands at a place, and what stands behind it. Assumes nothing.
+-- The mark, one place at a time. Assumes nothing.
 use Prim.Native.Nat.{ℕ, zero, suc, _+_, _-_, _≤_, _<_}
 use mathlib.Core.Path.{_≡_, refl, sym, ap, ap₂, _∙_}
 use mathlib.Core.List.{List, [], _∷_, map}
 use mathlib.Core.Bool.{Bool, true, false, _&&_, _||_, and-true, or-false}
-use native.Mathlib.Nat.{add-zero, zero-add}
+use native.Mathlib.Nat.{zero-add}
+use native.Mathlib.Numerals.{add-one}
 use native.Mathlib.Omega.{arith}
 use borrow.Author.Tests.{le-leb, lt-leb, leb-true, leb-false}
 use lib.Dec.{leb, eqb}
-use lib.ListN.{length, getD, take, drop, length-drop, drop-of-length-le, List·getD-eq-default}
-use lib.Seq.{drop-cons, getD-drop}
+use lib.ListN.{length, getD, take, drop, length-drop, drop-of-length-le}
+use lib.Seq.{drop-cons}
 use Rattle.windows.specs.Text.{bytes, up, upper, same}
 use Rattle.windows.specs.Window.{isAt}
 use Rattle.windows.proofs.Facts.{length-upper, getD-upper}
@@ -53,29 +54,62 @@ has-none ts w i h =
     let e : drop i (upper w) ≡ [] = drop-of-length-le (upper w) l in
     rw e
 
-pub next-none : (w : List ℕ) (i : ℕ) → length w ≤ i → 0 ≡ getD (upper w) i 0
-next-none w i h = let l : length (upper w) ≤ i = rw length-upper h in sym (List·getD-eq-default (upper w) 0 l)
+-- what a scan with the byte before it at hand finds
+unfoldable pub scan : ℕ → List ℕ → Bool
+scan c [] = false
+scan c (b ∷ u) = ((eqb b 87 || eqb b 75) || (eqb b 90 && eqb c 67)) || scan b u
 
-pub w-k-cz-turn : (w : List ℕ) (i b next : ℕ) (found : Bool) → 0 < i → i ≤ length w → b ≡ up (getD w (i - 1) 0) → next ≡ getD (upper w) i 0
-    → found ≡ hasOne (map bytes ("W" ∷ "K" ∷ "CZ" ∷ [])) (drop i (upper w))
-    → (((eqb b 87 || eqb b 75) || (eqb b 67 && eqb next 90)) || found) ≡ hasOne (map bytes ("W" ∷ "K" ∷ "CZ" ∷ [])) (drop (i - 1) (upper w))
-w-k-cz-turn w zero b next found z h eb en ef = absurd (omega arith)
-w-k-cz-turn w (suc i) b next found z h eb en ef =
-    let s : suc i - 1 ≡ i = omega arith in
+-- a CZ may be seen at its Z or at its C
+seen-at : (a z c h r : Bool) → ((a || (z && c)) || (h || r)) ≡ ((c && z) || ((a || h) || r))
+seen-at true true true h r = refl
+seen-at true true false h r = refl
+seen-at true false true h r = refl
+seen-at true false false h r = refl
+seen-at false true true h r = refl
+seen-at false true false h r = refl
+seen-at false false true h r = refl
+seen-at false false false h r = refl
+
+scan-has : (c : ℕ) (u : List ℕ) → scan c u ≡ ((eqb c 67 && eqb (getD u 0 0) 90) || hasOne (map bytes ("W" ∷ "K" ∷ "CZ" ∷ [])) u)
+unfolding scan hasOne
+scan-has c [] = none (eqb c 67)
+  where
+    none : (q : Bool) → false ≡ ((q && false) || false)
+    none true = refl
+    none false = refl
+scan-has c (b ∷ u) =
+    ap (λ (q : Bool). ((eqb b 87 || eqb b 75) || (eqb b 90 && eqb c 67)) || q) (scan-has b u)
+    ∙ seen-at (eqb b 87 || eqb b 75) (eqb b 90) (eqb c 67) (eqb b 67 && eqb (getD u 0 0) 90) (hasOne (map bytes ("W" ∷ "K" ∷ "CZ" ∷ [])) u)
+    ∙ ap (λ (q : Bool). (eqb c 67 && eqb b 90) || (q || hasOne (map bytes ("W" ∷ "K" ∷ "CZ" ∷ [])) u)) (sym (begins-w-k-cz b u))
+
+-- what was found, and what the scan from place `i` on finds
+abbrev pub Found : List ℕ → ℕ → ℕ → Bool → Type 0
+Found w i last found = (found || scan last (drop i (upper w))) ≡ scan 0 (upper w)
+
+pub scan-start : (w : List ℕ) → Found w 0 0 false
+scan-start w = refl
+
+found-more : (f h r : Bool) → ((f || h) || r) ≡ (f || (h || r))
+found-more true h r = refl
+found-more false h r = refl
+
+pub scan-turn : (w : List ℕ) (i b last : ℕ) (found : Bool) → i < length w → b ≡ up (getD w i 0) → Found w i last found
+    → Found w (i + 1) b (found || ((eqb b 87 || eqb b 75) || (eqb b 90 && eqb last 67)))
+unfolding scan
+scan-turn w i b last found h eb inv =
     let k : i < length (upper w) = rw length-upper h in
-    let c : drop i (upper w) ≡ b ∷ drop (suc i) (upper w) =
-    drop-cons (upper w) i 0 k ∙ ap (λ (x : ℕ). x ∷ drop (suc i) (upper w)) (getD-upper w i ∙ sym (rw s at eb)) in
-    let n : getD (drop (suc i) (upper w)) 0 0 ≡ next = getD-drop (suc i) (upper w) 0 0 ∙ rw add-zero (sym en) in
-    rw s
-    (sym (has-cons (map bytes ("W" ∷ "K" ∷ "CZ" ∷ [])) (upper w) i k
-    ∙ ap₂ _||_
-    (ap (beginsOne (map bytes ("W" ∷ "K" ∷ "CZ" ∷ []))) c ∙ begins-w-k-cz b (drop (suc i) (upper w))
-    ∙ ap (λ (x : ℕ). (eqb b 87 || eqb b 75) || (eqb b 67 && eqb x 90)) n)
-    (sym ef)))
+    let c : drop i (upper w) ≡ b ∷ drop (i + 1) (upper w) =
+    rw add-one (drop-cons (upper w) i 0 k ∙ ap (λ (x : ℕ). x ∷ drop (suc i) (upper w)) (getD-upper w i ∙ sym eb)) in
+    found-more found ((eqb b 87 || eqb b 75) || (eqb b 90 && eqb last 67)) (scan b (drop (i + 1) (upper w)))
+    ∙ ap (λ (u : List ℕ). found || scan last u) (sym c) ∙ inv
 
--- the byte that the code read is the word's
-pub byte-read : (w : List ℕ) (i b : ℕ) → b ≡ up (getD w i 0) → b ≡ getD (upper w) i 0
-byte-read w i b e = e ∙ sym (getD-upper w i)
+pub scan-end : (w : List ℕ) (i last : ℕ) (found : Bool) → length w ≤ i → Found w i last found
+    → found ≡ hasOne (map bytes ("W" ∷ "K" ∷ "CZ" ∷ [])) (upper w)
+unfolding scan
+scan-end w i last found h inv =
+    let l : length (upper w) ≤ i = rw length-upper h in
+    let e : drop i (upper w) ≡ [] = drop-of-length-le (upper w) l in
+    sym (or-false found) ∙ ap (λ (u : List ℕ). found || scan last u) (sym e) ∙ inv ∙ scan-has 0 (upper w)
 
 -- at the front all is found
 pub found-all : (ts : List (List ℕ)) (u : List ℕ) (i : ℕ) (found : Bool) → i ≤ 0 → found ≡ hasOne ts (drop i u) → found ≡ hasOne ts u
@@ -122,6 +156,10 @@ has-both (b ∷ u) =
     ∙ four-tests (isAt (b ∷ u) 0 1 (bytes "W")) (isAt (b ∷ u) 0 1 (bytes "K")) (isAt (b ∷ u) 0 2 (bytes "CZ")) (isAt (b ∷ u) 0 4 (bytes "WITZ"))
     (hasOne (map bytes ("W" ∷ "K" ∷ "CZ" ∷ [])) u) (hasOne (map bytes ("WITZ" ∷ [])) u)
 
-pub mark-both : (u : List ℕ) (q r : Bool) → q ≡ hasOne (map bytes ("W" ∷ "K" ∷ "CZ" ∷ [])) u → r ≡ hasOne (map bytes ("WITZ" ∷ [])) u → (q || r) ≡ slavoGermanic u
+pub mark-yes : (u : List ℕ) → true ≡ hasOne (map bytes ("W" ∷ "K" ∷ "CZ" ∷ [])) u → true ≡ slavoGermanic u
 unfolding slavoGermanic
-mark-both u q r e f = ap₂ _||_ e f ∙ sym (has-both u)
+mark-yes u e = sym (has-both u ∙ ap (λ (q : Bool). q || hasOne (map bytes ("WITZ" ∷ [])) u) (sym e))
+
+pub mark-last : (u : List ℕ) (r : Bool) → false ≡ hasOne (map bytes ("W" ∷ "K" ∷ "CZ" ∷ [])) u → r ≡ hasOne (map bytes ("WITZ" ∷ [])) u → r ≡ slavoGermanic u
+unfolding slavoGermanic
+mark-last u r e f = f ∙ sym (has-both u ∙ ap (λ (q : Bool). q || hasOne (map bytes ("WITZ" ∷ [])) u) (sym e))

@@ -24,7 +24,11 @@ pub struct Tally {
 pub fn is_slavo_germanic(w: &[u8]) -> bool
     ensures { λ r. ⌜ r ≡ slavoGermanic (upper (now (w .entry))) ⌝ }
 {
-    mark::has_w_k_cz(w) | mark::has_witz(w)
+    if mark::has_w_k_cz(w) {
+        true
+    } else {
+        mark::has_witz(w)
+    }
 }
 
 // The place of the first visit: 1 where the first letter is silent.

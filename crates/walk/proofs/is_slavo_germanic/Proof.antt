@@ -1,5 +1,6 @@
 -- `walk::is_slavo_germanic` meets its contract: the two scans together ask for the four texts. Assumes nothing.
-use Rattle.walk.proofs.Word.{mark-both}
+use mathlib.Core.Path.{sym, _∙_}
+use Rattle.walk.proofs.Word.{mark-yes, mark-last}
 use Rattle.walk.proofs.is_slavo_germanic.Statement.{statement}
 use Rattle.walk.proofs.is_slavo_germanic.Tie as tie
 
@@ -9,4 +10,5 @@ is-slavo-germanic-spec =
     (tie.spec
     (λ c κs. tt)
     (λ c κs. tt)
-    (λ c. mark-both _ _ _ (c .before .has-w-k-cz .ensures) (c .has-witz .ensures)))
+    (λ c. mark-yes _ (sym (c .if1 .taken) ∙ c .before .has-w-k-cz .ensures))
+    (λ c. mark-last _ _ (sym (c .before .if1 .left) ∙ c .before .before .has-w-k-cz .ensures) (c .has-witz .ensures)))

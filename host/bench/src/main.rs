@@ -1,0 +1,43 @@
+//! Times the proved port beside the unchanged Rust, in turns over the same words, prints a table and writes docs/BENCHMARKS.md.
+mod measure;
+mod report;
+
+use measure::{measure, Row};
+use oracle::{Oracle, NOT_AT_HAND};
+use std::fs;
+use std::io;
+use std::path::Path;
+use words::{gauges, sized, Rng};
+
+const LIMITS: [Option<usize>; 3] = [Some(4), Some(6), None];
+
+/// A list has about this many bytes, so that it stays in the cache and its words are too many to be learnt by heart.
+const BYTES: usize = 1 << 18;
+
+/// What is timed: the name of a list, and its words.
+fn lists() -> Vec<(String, Vec<String>)> {
+    let rng = &mut Rng::new(1, 0);
+    let mut lists = vec![("gauge names".to_string(), gauges(rng, 5000))];
+    for length in [16, 64, 256, 1024] {
+        lists.push((format!("words of {length} bytes"), sized(rng, (BYTES / length).min(5000), length)));
+    }
+    lists
+}
+
+fn main() -> io::Result<()> {
+    let Some(oracle) = Oracle::at_hand() else {
+        println!("bench: NOT RUN, there is nothing to time the port beside: {NOT_AT_HAND}");
+        return Ok(());
+    };
+    let mut rows: Vec<Row> = Vec::new();
+    for (list, words) in lists() {
+        for limit in LIMITS {
+            rows.push(measure(&oracle, &list, &words, limit));
+        }
+    }
+    let gauges = &lists()[0].1;
+    let text = report::page(&rows, gauges);
+    print!("{}", report::table(&rows));
+    println!("{}", report::targets(&rows));
+    fs::write(Path::new(env!("CARGO_MANIFEST_DIR")).join("../../docs/BENCHMARKS.md"), text)
+}

@@ -1,0 +1,85 @@
+use crate::measure::Row;
+use std::env::consts::{ARCH, OS};
+use std::thread;
+
+/// Nowhere may the port be less than this times as fast as the Rust.
+const ANYWHERE: f64 = 1.8;
+/// On gauge names, at each limit.
+const ON_GAUGES: f64 = 2.5;
+/// With no limit on words of 64 bytes and more.
+const ON_LONG: f64 = 3.0;
+
+impl Row {
+    fn target(&self) -> f64 {
+        match (self.list.as_str(), self.limit) {
+            ("gauge names", _) => ON_GAUGES,
+            ("words of 64 bytes" | "words of 256 bytes" | "words of 1024 bytes", None) => ON_LONG,
+            _ => ANYWHERE,
+        }
+    }
+}
+
+pub fn table(rows: &[Row]) -> String {
+    let mut text = String::from(
+        "| words | limit | Rust | port | ratio | wanted | wrapper | ratio |\n|---|---|--:|--:|--:|--:|--:|--:|\n",
+    );
+    for row in rows {
+        let limit = row.limit.map_or("none".to_string(), |limit| limit.to_string());
+        text += &format!(
+            "| {} | {limit} | {} | {} | {:.2} | {:.1} | {} | {:.2} |\n",
+            row.list,
+            thousands(row.rust),
+            thousands(row.port),
+            row.ratio,
+            row.target(),
+            thousands(row.wrapper),
+            row.wrapper_ratio,
+        );
+    }
+    text
+}
+
+/// Words a second in thousands.
+fn thousands(rate: f64) -> String {
+    format!("{:.0} k", rate / 1000.0)
+}
+
+/// One line: which rows fall short, if any.
+pub fn targets(rows: &[Row]) -> String {
+    let missed: Vec<String> = rows
+        .iter()
+        .filter(|row| row.ratio < row.target())
+        .map(|row| format!("{} at {:?}: {:.2} of {:.1}", row.list, row.limit, row.ratio, row.target()))
+        .collect();
+    if missed.is_empty() {
+        "Every ratio reaches what is wanted.".to_string()
+    } else {
+        format!("Short of what is wanted: {}.", missed.join("; "))
+    }
+}
+
+pub fn page(rows: &[Row], gauges: &[String]) -> String {
+    let cores = thread::available_parallelism().map_or(1, usize::from);
+    let bytes: usize = gauges.iter().map(String::len).sum();
+    format!(
+        "# Benchmarks
+
+Words a second, in thousands: the unchanged double_metaphone.rs of rphonetic 4.0.0 (Rust), the proved port on lent buffers (port), and
+the port behind the Rust wrapper that returns two strings (wrapper), each beside its ratio to the Rust. All three take both codes of
+every word. They take turns over the same words in one run, on one thread; a number is the median of eleven rounds.
+
+The gauge names are {} lines of {:.1} bytes on average. Words of a given length are gauge names with a space between, cut off there.
+
+{}
+{}
+
+Measured on {cores} cores, {ARCH}, {OS}, by this command in host/, which writes this page:
+
+    cargo run --offline --release -p bench
+",
+        gauges.len(),
+        bytes as f64 / gauges.len() as f64,
+        table(rows),
+        targets(rows),
+    )
+}

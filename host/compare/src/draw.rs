@@ -1,0 +1,160 @@
+//! Words drawn at random.
+use crate::trial::Rooms;
+use oracle::LARGEST_LIMIT;
+use words::{Rng, ACCENTED, NAMES};
+
+/// Blank bytes, and the control bytes beside them that are not trimmed.
+const ENDS: &[u8] = b"\x09\x0a\x0b\x0c\x0d \x08\x0e\x1c\x1d\x1e\x1f";
+
+/// What the letter rules ask for, and what surrounds it.
+#[rustfmt::skip]
+const FRAGMENTS: &[&str] = &[
+    "A", "E", "I", "O", "U", "Y", " ", "A", "E", "I", "O", "U", "Y", " ",
+    "B", "C", "D", "F", "G", "H", "J", "K", "L", "M", "N", "P", "Q", "R", "S", "T", "V", "W", "X", "Z",
+    "GN", "KN", "PN", "WR", "PS", "CZ", "WITZ", "WICZ", "CHIA", "ACH", "ACHI", "ACHE", "BACHER", "MACHER", "CAESAR", "CH", "CHAE",
+    "CHARAC", "CHARIS", "CHOR", "CHYM", "CHIA", "CHEM", "CHORE", "VAN", "VON", "VAN ", "VON ", "SCH", "ORCHES", "ARCHIT", "ORCHID",
+    "CHT", "CHS", "ACHL", "OCHR", "UCHN", "ECHM", "ACH ", "MC", "CCIA", "CC", "CCI", "CCE", "CCH", "CCHU", "ACCE", "UCCEE", "UCCES",
+    "CK", "CG", "CQ", "CI", "CE", "CY", "CIO", "CIE", "CIA", "C C", "C Q", "C G", "DG", "DGE", "DGI", "DGY", "DT", "DD",
+    "GH", "GHI", "GHT", "BOUGH", "HUGH", "DAUGH", "LAUGH", "COUGH", "ROUGH", "IGH", "GNEY", "GLI", "GES", "GEP", "GEB", "GEL", "GEY",
+    "GIB", "GIL", "GIN", "GIE", "GEI", "GER", "GY", "DANGER", "RANGER", "MANGER", "RGY", "OGY", "EGER", "AGGI", "OGGI", "GET", "GIER",
+    "GG", "HH", "AHA", "JOSE", "JOSE ", "SAN ", "AJA", "OJO", "JJ", "SJ", "KJ", "LJ", "JL", "JT", "JZ", "AJ", "ILLO", "ILLA", "ALLE",
+    "AS", "OS", "LL", "UMB", "UMBER", "MM", "PH", "PP", "PB", "IER", "MEIER", "MAIER", "RR", "ISL", "YSL", "SUGAR", "SH", "SHEIM",
+    "SHOEK", "SHOLM", "SHOLZ", "SIO", "SIA", "SIAN", "SM", "SN", "SL", "SW", "SZ", "SC", "SCHOO", "SCHER", "SCHEN", "SCHUY", "SCHED",
+    "SCHEM", "SCHW", "SCI", "SCE", "SCY", "AIS", "OIS", "SS", "TION", "TIA", "TCH", "TH", "TTH", "THOM", "THAM", "TT", "TD", "WH",
+    "AW", "EWSKI", "EWSKY", "OWSKI", "OWSKY", "IAUX", "EAUX", "AUX", "OUX", "XC", "XX", "ZH", "ZZO", "ZZI", "ZZA", "TZ", "ZZ", "XZ",
+    "1", "-", "'", ".",
+];
+
+#[derive(Clone, Copy, Debug, PartialEq, Eq)]
+pub enum Kind {
+    Letters,
+    Fragments,
+    Ascii,
+    AnyBytes,
+    Names,
+    Longest,
+}
+
+/// A word of this kind and length; a name has its own length.
+pub fn word(rng: &mut Rng, kind: Kind, length: usize) -> Vec<u8> {
+    let mut word = match kind {
+        Kind::Letters => (0..length).map(|_| letter(rng)).collect(),
+        Kind::Fragments => fragments(rng, length),
+        Kind::Ascii => (0..length).map(|_| rng.byte() & 127).collect(),
+        Kind::AnyBytes => any_bytes(rng, length),
+        Kind::Names => damaged(rng),
+        Kind::Longest => return (0..length).map(|at| if at == 0 { b'K' } else { b"ZX"[at % 2] }).collect(),
+    };
+    if rng.once_in(5) {
+        blank_ends(rng, &mut word);
+    }
+    word
+}
+
+fn letter(rng: &mut Rng) -> u8 {
+    match rng.below(54) {
+        at @ 0..=25 => b'A' + at as u8,
+        at @ 26..=51 => b'a' + (at - 26) as u8,
+        _ => b' ',
+    }
+}
+
+fn fragments(rng: &mut Rng, length: usize) -> Vec<u8> {
+    let mut word = Vec::with_capacity(length + 8);
+    let small = rng.once_in(2);
+    while word.len() < length {
+        let at = word.len();
+        word.extend_from_slice(rng.pick(FRAGMENTS).as_bytes());
+        if small && !rng.once_in(4) {
+            word[at..].make_ascii_lowercase();
+        }
+    }
+    word.truncate(length);
+    word
+}
+
+/// All bytes alike, or one byte that is not ASCII in a word that else is.
+fn any_bytes(rng: &mut Rng, length: usize) -> Vec<u8> {
+    if length == 0 || rng.once_in(3) {
+        return (0..length).map(|_| rng.byte()).collect();
+    }
+    let mut word = fragments(rng, length);
+    let at = rng.below(length);
+    word[at] = 128 | rng.byte();
+    word
+}
+
+/// A name as it stands, as Latin-1, or with a few bytes lost, doubled or overwritten.
+fn damaged(rng: &mut Rng) -> Vec<u8> {
+    let name = if rng.once_in(2) { rng.pick(ACCENTED) } else { rng.pick(NAMES) };
+    let mut word = if rng.once_in(3) { name.chars().map(|c| c as u32 as u8).collect() } else { name.as_bytes().to_vec() };
+    for _ in 0..rng.below(4) {
+        if word.is_empty() {
+            break;
+        }
+        let at = rng.below(word.len());
+        match rng.below(4) {
+            0 => word[at] = rng.byte(),
+            1 => word.insert(at, word[at]),
+            2 => word.truncate(at),
+            _ => {
+                word.remove(at);
+            }
+        }
+    }
+    word
+}
+
+/// Puts blank bytes, or bytes that are nearly blank, over a few at either end.
+fn blank_ends(rng: &mut Rng, word: &mut [u8]) {
+    let length = word.len();
+    for at in 0..rng.below(4).min(length) {
+        word[at] = ENDS[rng.below(ENDS.len())];
+    }
+    for back in 0..rng.below(4).min(length) {
+        word[length - 1 - back] = ENDS[rng.below(ENDS.len())];
+    }
+}
+
+/// A word that may well have the same codes as another: other case, other vowels, blank ends, a byte lost or doubled.
+pub fn alike(rng: &mut Rng, word: &[u8]) -> Vec<u8> {
+    let mut other = Vec::with_capacity(word.len() + 8);
+    for &byte in word {
+        let byte = if b"AEIOUaeiou".contains(&byte) && rng.once_in(3) { b"aeiou"[rng.below(5)] } else { byte };
+        let times = match rng.below(40) {
+            0 => 0,
+            1 => 2,
+            _ => 1,
+        };
+        let byte = if rng.once_in(4) { byte ^ (32 * u8::from(byte.is_ascii_alphabetic())) } else { byte };
+        other.extend(std::iter::repeat(byte).take(times));
+    }
+    if rng.once_in(4) {
+        other.push(b' ');
+    }
+    other
+}
+
+/// None, or a limit: small ones, those about the need, the largest that the Rust is asked for, and any number.
+pub fn limit(rng: &mut Rng, length: usize) -> Option<u64> {
+    match rng.below(12) {
+        0..=3 => None,
+        4..=6 => Some(rng.below(8) as u64),
+        7..=8 => Some(rng.below(2 * length + 2) as u64),
+        9 => Some(LARGEST_LIMIT as u64),
+        10 => Some(rng.below(LARGEST_LIMIT + 1) as u64),
+        _ => Some(rng.number()),
+    }
+}
+
+/// Mostly enough room.
+pub fn rooms(rng: &mut Rng) -> Rooms {
+    match rng.below(16) {
+        0 => Rooms::PrimaryShort,
+        1 => Rooms::AlternateShort,
+        2 => Rooms::BothShort,
+        3 => Rooms::Nothing,
+        4..=8 => Rooms::Exact,
+        _ => Rooms::Spare,
+    }
+}

@@ -1,0 +1,179 @@
+//! The comparison finds no difference in the port, and finds each of these faults on its smallest input.
+use crate::jobs::Plan;
+use crate::port::{Library, Port};
+use crate::run::{Outcome, Run};
+use crate::{grouped, options};
+use oracle::{Oracle, NOT_AT_HAND};
+use simmerquilt::{Answer, Verdict, CODE_ROOM};
+
+fn outcome(port: &impl Port) -> Option<Outcome> {
+    let Some(oracle) = Oracle::at_hand() else {
+        eprintln!("NOT RUN, nothing was compared: {NOT_AT_HAND}");
+        return None;
+    };
+    Some(Run { oracle, port, plan: Plan::taste(), seed: 1, until: None }.go(2))
+}
+
+#[test]
+fn the_library_agrees_with_the_rust() {
+    let Some(outcome) = outcome(&Library) else { return };
+    assert_eq!(outcome.difference, None);
+    assert!(outcome.numbers.iter().all(|count| *count > 0));
+}
+
+/// The library with something done to its answers afterwards.
+struct Faulty<E, Q>(E, Q);
+
+type Buffers<'a> = (&'a mut [u8], &'a mut [u8]);
+
+impl<E, Q> Port for Faulty<E, Q>
+where
+    E: Fn(&[u8], Buffers, Option<u64>, Answer) -> Answer + Sync,
+    Q: Fn(&[u8], &[u8], Verdict) -> Verdict + Sync,
+{
+    fn encode(&self, word: &[u8], primary: &mut [u8], alternate: &mut [u8], limit: Option<u64>) -> Answer {
+        let answer = Library.encode(word, primary, alternate, limit);
+        self.0(word, (primary, alternate), limit, answer)
+    }
+
+    fn equal(&self, first: &[u8], second: &[u8], limit: Option<u64>, alternate: bool) -> Verdict {
+        self.1(first, second, Library.equal(first, second, limit, alternate))
+    }
+}
+
+/// Asserts that the fault is found and that the report opens with this.
+fn found(port: impl Port, opening: &str) {
+    let Some(outcome) = outcome(&port) else { return };
+    let (_, report) = outcome.difference.expect("the fault is found");
+    assert!(report.starts_with(opening), "{report}");
+}
+
+fn encoding(fault: impl Fn(&[u8], Buffers, Option<u64>, Answer) -> Answer + Sync, opening: &str) {
+    found(Faulty(fault, |_: &[u8], _: &[u8], verdict| verdict), opening);
+}
+
+#[test]
+fn finds_a_dropped_space_of_a_last_j() {
+    encoding(
+        |_, (_, alternate), _, mut answer| {
+            if alternate[..answer.alternate].ends_with(b" ") {
+                answer.alternate -= 1;
+            }
+            answer
+        },
+        "encode b\"AJ\"",
+    );
+}
+
+#[test]
+fn finds_a_byte_written_behind_the_code() {
+    encoding(
+        |_, (primary, _), _, answer| {
+            if answer.primary == 2 && primary.len() > 2 {
+                primary[2] = 0;
+            }
+            answer
+        },
+        "encode b\"",
+    );
+}
+
+#[test]
+fn finds_a_buffer_changed_by_a_refusal() {
+    encoding(
+        |_, (primary, _), _, answer| {
+            if answer.number == 4 {
+                primary[0] = b'A';
+            }
+            answer
+        },
+        "encode b\"A\", limit None, buffers of 1 and 0 bytes",
+    );
+}
+
+#[test]
+fn finds_a_wrong_place() {
+    encoding(
+        |_, _, _, mut answer| {
+            answer.place += usize::from(answer.place > 0);
+            answer
+        },
+        "encode b\"",
+    );
+}
+
+#[test]
+fn finds_visits_made_after_both_codes_are_full() {
+    encoding(
+        |word, _, _, mut answer| {
+            let (mut primary, mut alternate) = ([0; CODE_ROOM], [0; CODE_ROOM]);
+            if answer.number == 0 {
+                answer.visits = Library.encode(word, &mut primary, &mut alternate, None).visits;
+            }
+            answer
+        },
+        "encode b\"A\", limit Some(0)",
+    );
+}
+
+#[test]
+fn finds_a_walk_that_stops_at_the_first_full_code() {
+    encoding(
+        |_, _, limit, mut answer| {
+            let full = |length: usize| limit == Some(length as u64);
+            answer.visits -= usize::from(full(answer.primary) && !full(answer.alternate));
+            answer
+        },
+        "encode b\"",
+    );
+}
+
+#[test]
+fn finds_primary_and_alternate_refused_in_the_wrong_order() {
+    encoding(
+        |_, (primary, alternate), _, mut answer| {
+            if answer.number == 3 && alternate.len() == primary.len() {
+                answer.number = 4;
+            }
+            answer
+        },
+        "encode b\"",
+    );
+}
+
+#[test]
+fn finds_a_second_word_refused_before_the_first() {
+    let fault = |first: &[u8], second: &[u8], mut verdict: Verdict| {
+        if !first.is_ascii() && !second.is_ascii() {
+            verdict.word = 2;
+        }
+        verdict
+    };
+    found(Faulty(|_: &[u8], _: Buffers, _, answer| answer, fault), "equal b\"\\x");
+}
+
+#[test]
+fn finds_unequal_empty_codes() {
+    let fault = |first: &[u8], second: &[u8], mut verdict: Verdict| {
+        if first.is_empty() && second.is_empty() {
+            verdict.equal = 0;
+        }
+        verdict
+    };
+    found(Faulty(|_: &[u8], _: Buffers, _, answer| answer, fault), "equal b\"\" and b\"\"");
+}
+
+#[test]
+fn numbers_are_grouped() {
+    assert_eq!([0, 999, 1000, 1_234_567].map(grouped), ["0", "999", "1,000", "1,234,567"]);
+}
+
+#[test]
+fn options_are_read() {
+    let read = |line: &str| options(line.split_whitespace().map(String::from)).map(|o| (o.seconds, o.seed));
+    assert_eq!(read(""), Some((Some(20), 1)));
+    assert_eq!(read("--full --seed 7"), Some((None, 7)));
+    assert_eq!(read("--seconds 5"), Some((Some(5), 1)));
+    assert_eq!(read("--seconds"), None);
+    assert_eq!(read("--fast"), None);
+}

@@ -1,0 +1,88 @@
+//! Document 01's names with known keys, through the names that users know.
+use simmerquilt::DoubleMetaphone;
+
+const KNOWN: &[(&str, Option<usize>, &str, &str, usize)] = &[
+    ("", None, "", "", 0),
+    ("jumped", None, "JMPT", "AMPT", 6),
+    ("jumped", Some(1), "J", "A", 1),
+    ("jumped", Some(0), "", "", 0),
+    ("GN", None, "N", "N", 1),
+    ("XX", None, "SKS", "SKS", 2),
+    ("KXZ", None, "KKSS", "KKSTS", 3),
+    ("KXZ", Some(2), "KK", "KK", 2),
+    ("Mac Gregor", None, "MKRKR", "MKRKR", 8),
+    ("Mac Gregor", Some(4), "MKRK", "MKRK", 6),
+    ("Rogier", Some(3), "RJ", "RJR", 5),
+    ("Villa", None, "FL", "F", 4),
+    ("artois", None, "ART", "ARTS", 6),
+    ("Van Chi", None, "FNX", "FNK", 6),
+    // The errors that read well: a full code alone does not end the walk, two full codes do.
+    ("Villa", Some(2), "FL", "F", 4),
+    ("artois", Some(3), "ART", "ART", 3),
+    ("Rogier", Some(2), "RJ", "RJ", 3),
+    // A last J adds a space to the alternate code.
+    ("Saj", None, "SJ", "S ", 3),
+];
+
+#[test]
+fn known_names_have_their_keys() {
+    for &(word, limit, primary, alternate, visits) in KNOWN {
+        let result = DoubleMetaphone::new(limit).double_metaphone(word).unwrap();
+        let got = (result.primary(), result.alternate(), result.visits());
+        assert_eq!(got, (primary, alternate, visits), "{word:?} under {limit:?}");
+    }
+}
+
+#[test]
+fn one_code_is_that_of_both() {
+    let encoder = DoubleMetaphone::new(None);
+    assert_eq!(encoder.encode("Villa").unwrap(), "FL");
+    assert_eq!(encoder.encode_alternate("Villa").unwrap(), "F");
+}
+
+#[test]
+fn the_default_limit_is_four() {
+    assert_eq!(DoubleMetaphone::default(), DoubleMetaphone::new(Some(4)));
+    assert_eq!(DoubleMetaphone::default().encode("Mac Gregor").unwrap(), "MKRK");
+}
+
+#[test]
+fn text_and_bytes_are_one_word() {
+    let encoder = DoubleMetaphone::default();
+    let expected = encoder.encode("Thames").unwrap();
+    assert_eq!(encoder.encode(b"Thames").unwrap(), expected);
+    assert_eq!(encoder.encode(&b"Thames"[..]).unwrap(), expected);
+    assert_eq!(encoder.encode(String::from("Thames")).unwrap(), expected);
+    assert_eq!(encoder.encode(&String::from("Thames")).unwrap(), expected);
+}
+
+#[test]
+fn case_and_blank_ends_do_not_matter() {
+    let encoder = DoubleMetaphone::new(None);
+    let expected = encoder.double_metaphone("MAC GREGOR").unwrap();
+    assert_eq!(encoder.double_metaphone("\t\n\x0b\x0c\r Mac Gregor \r\n").unwrap(), expected);
+}
+
+#[test]
+fn bytes_28_to_31_are_not_blank() {
+    // Behind one of them the J is not last, and before it the vowel is not at place 0.
+    let encoder = DoubleMetaphone::new(None);
+    assert_eq!(encoder.encode_alternate("Saj").unwrap(), "S ");
+    for byte in 28..=31u8 {
+        assert_eq!(encoder.encode_alternate([b"Saj".as_slice(), &[byte]].concat()).unwrap(), "SJ");
+        assert_eq!(encoder.encode([&[byte], b"oder".as_slice()].concat()).unwrap(), "TR");
+    }
+}
+
+#[test]
+fn equality_takes_the_limited_codes() {
+    let equal = |limit, first, second, alternate| {
+        DoubleMetaphone::new(limit).is_double_metaphone_equal(first, second, alternate).unwrap()
+    };
+    assert!(equal(None, "Villa", "Fillo", false));
+    assert!(equal(None, "", " \t", false));
+    assert!(equal(Some(0), "Oder", "Elbe", true));
+    assert!(equal(Some(3), "artois", "art", true));
+    assert!(!equal(Some(4), "artois", "art", true));
+    assert!(equal(Some(4), "artois", "art", false));
+}

@@ -5,8 +5,8 @@ use borrow.Fn.Kinds.{Dens, resT, endedOf}
 use denote.Ref.{now}
 use denote.Triple.Clauses.{AtExit}
 use Rattle.windows.proofs.Choice.{OneResult}
-use Rattle.walk.proofs.is_slavo_germanic.Kinds as is-slavo-germanic-kinds
-use Rattle.walk.proofs.is_slavo_germanic.Reads as is-slavo-germanic
+use Rattle.walk.proofs.mark.is_slavo_germanic.Kinds as is-slavo-germanic-kinds
+use Rattle.walk.proofs.mark.is_slavo_germanic.Reads as is-slavo-germanic
 use Rattle.walk.proofs.start_of.Kinds as start-of-kinds
 use Rattle.walk.proofs.start_of.Reads as start-of
 use Rattle.walk.proofs.walk.Kinds as walk-kinds

@@ -1,7 +1,7 @@
 -- The mark, one place at a time. Assumes nothing.
-use Prim.Native.Nat.{ℕ, zero, suc, _+_, _-_, _≤_, _<_}
-use mathlib.Core.Path.{_≡_, refl, sym, ap, ap₂, _∙_}
-use mathlib.Core.List.{List, [], _∷_, map}
+use Prim.Native.Nat.{ℕ, suc, _+_, _≤_, _<_}
+use mathlib.Core.Path.{_≡_, refl, sym, ap, _∙_}
+use mathlib.Core.List.{List, [], _∷_}
 use mathlib.Core.Bool.{Bool, true, false, _&&_, _||_, and-true, or-false}
 use native.Mathlib.Nat.{zero-add}
 use native.Mathlib.Numerals.{add-one}
@@ -13,7 +13,7 @@ use lib.Seq.{drop-cons}
 use Rattle.windows.specs.Text.{bytes, up, upper, same}
 use Rattle.windows.specs.Window.{isAt}
 use Rattle.windows.proofs.Facts.{length-upper, getD-upper}
-use Rattle.walk.specs.Word.{beginsOne, hasOne, slavoGermanic}
+use Rattle.walk.specs.Word.{beginsOne, hasOne, markTexts, slavoGermanic}
 
 -- ---- a text of one byte, and of two, at the front
 one-there : (b x : ℕ) (r : List ℕ) → isAt (b ∷ r) 0 1 (x ∷ []) ≡ eqb b x
@@ -29,35 +29,27 @@ two-there b x y [] e = rw e (none (eqb b x))
     none false = refl
 two-there b x y (d ∷ r) e = simp (le-leb 2 (suc (suc (length r))) (omega arith), and-true)
 
-or-three : (a b c : Bool) → (a || (b || (c || false))) ≡ ((a || b) || c)
-or-three true b c = refl
-or-three false true c = refl
-or-three false false c = or-false c
+-- ---- the four texts at the front
+four-tests : (w k c t : Bool) → (w || (k || (c || (t || false)))) ≡ (((w || t) || k) || c)
+four-tests true k c t = refl
+four-tests false true c true = refl
+four-tests false true c false = refl
+four-tests false false true true = refl
+four-tests false false true false = refl
+four-tests false false false true = refl
+four-tests false false false false = refl
 
-begins-w-k-cz : (b : ℕ) (r : List ℕ)
-    → beginsOne (map bytes ("W" ∷ "K" ∷ "CZ" ∷ [])) (b ∷ r) ≡ ((eqb b 87 || eqb b 75) || (eqb b 67 && eqb (getD r 0 0) 90))
+begins-marked : (b : ℕ) (r : List ℕ)
+    → beginsOne markTexts (b ∷ r) ≡ (((eqb b 87 || isAt (b ∷ r) 0 4 (bytes "WITZ")) || eqb b 75) || (eqb b 67 && eqb (getD r 0 0) 90))
 unfolding beginsOne
-begins-w-k-cz b r =
+begins-marked b r =
     rw (one-there b 87 r, one-there b 75 r, two-there b 67 90 r refl)
-    (or-three (eqb b 87) (eqb b 75) (eqb b 67 && eqb (getD r 0 0) 90))
+    (four-tests (eqb b 87) (eqb b 75) (eqb b 67 && eqb (getD r 0 0) 90) (isAt (b ∷ r) 0 4 (bytes "WITZ")))
 
--- ---- the scans, one place at a time
-has-cons : (ts : List (List ℕ)) (u : List ℕ) (i : ℕ) → i < length u
-    → hasOne ts (drop i u) ≡ (beginsOne ts (drop i u) || hasOne ts (drop (suc i) u))
-unfolding hasOne
-has-cons ts u i h = rw (drop-cons u i 0 h)
-
-pub has-none : (ts : List (List ℕ)) (w : List ℕ) (i : ℕ) → length w ≤ i → false ≡ hasOne ts (drop i (upper w))
-unfolding hasOne
-has-none ts w i h =
-    let l : length (upper w) ≤ i = rw length-upper h in
-    let e : drop i (upper w) ≡ [] = drop-of-length-le (upper w) l in
-    rw e
-
--- what a scan with the byte before it at hand finds
+-- ---- what a scan with the byte before it at hand finds
 unfoldable pub scan : ℕ → List ℕ → Bool
 scan c [] = false
-scan c (b ∷ u) = ((eqb b 87 || eqb b 75) || (eqb b 90 && eqb c 67)) || scan b u
+scan c (b ∷ u) = (((eqb b 87 || isAt (b ∷ u) 0 4 (bytes "WITZ")) || eqb b 75) || (eqb b 90 && eqb c 67)) || scan b u
 
 -- a CZ may be seen at its Z or at its C
 seen-at : (a z c h r : Bool) → ((a || (z && c)) || (h || r)) ≡ ((c && z) || ((a || h) || r))
@@ -70,7 +62,7 @@ seen-at false true false h r = refl
 seen-at false false true h r = refl
 seen-at false false false h r = refl
 
-scan-has : (c : ℕ) (u : List ℕ) → scan c u ≡ ((eqb c 67 && eqb (getD u 0 0) 90) || hasOne (map bytes ("W" ∷ "K" ∷ "CZ" ∷ [])) u)
+scan-has : (c : ℕ) (u : List ℕ) → scan c u ≡ ((eqb c 67 && eqb (getD u 0 0) 90) || hasOne markTexts u)
 unfolding scan hasOne
 scan-has c [] = none (eqb c 67)
   where
@@ -78,9 +70,9 @@ scan-has c [] = none (eqb c 67)
     none true = refl
     none false = refl
 scan-has c (b ∷ u) =
-    ap (λ (q : Bool). ((eqb b 87 || eqb b 75) || (eqb b 90 && eqb c 67)) || q) (scan-has b u)
-    ∙ seen-at (eqb b 87 || eqb b 75) (eqb b 90) (eqb c 67) (eqb b 67 && eqb (getD u 0 0) 90) (hasOne (map bytes ("W" ∷ "K" ∷ "CZ" ∷ [])) u)
-    ∙ ap (λ (q : Bool). (eqb c 67 && eqb b 90) || (q || hasOne (map bytes ("W" ∷ "K" ∷ "CZ" ∷ [])) u)) (sym (begins-w-k-cz b u))
+    ap (λ (q : Bool). (((eqb b 87 || isAt (b ∷ u) 0 4 (bytes "WITZ")) || eqb b 75) || (eqb b 90 && eqb c 67)) || q) (scan-has b u)
+    ∙ seen-at ((eqb b 87 || isAt (b ∷ u) 0 4 (bytes "WITZ")) || eqb b 75) (eqb b 90) (eqb c 67) (eqb b 67 && eqb (getD u 0 0) 90) (hasOne markTexts u)
+    ∙ ap (λ (q : Bool). (eqb c 67 && eqb b 90) || (q || hasOne markTexts u)) (sym (begins-marked b u))
 
 -- what was found, and what the scan from place `i` on finds
 abbrev pub Found : List ℕ → ℕ → ℕ → Bool → Type 0
@@ -93,29 +85,6 @@ found-more : (f h r : Bool) → ((f || h) || r) ≡ (f || (h || r))
 found-more true h r = refl
 found-more false h r = refl
 
-pub scan-turn : (w : List ℕ) (i b last : ℕ) (found : Bool) → i < length w → b ≡ up (getD w i 0) → Found w i last found
-    → Found w (i + 1) b (found || ((eqb b 87 || eqb b 75) || (eqb b 90 && eqb last 67)))
-unfolding scan
-scan-turn w i b last found h eb inv =
-    let k : i < length (upper w) = rw length-upper h in
-    let c : drop i (upper w) ≡ b ∷ drop (i + 1) (upper w) =
-    rw add-one (drop-cons (upper w) i 0 k ∙ ap (λ (x : ℕ). x ∷ drop (suc i) (upper w)) (getD-upper w i ∙ sym eb)) in
-    found-more found ((eqb b 87 || eqb b 75) || (eqb b 90 && eqb last 67)) (scan b (drop (i + 1) (upper w)))
-    ∙ ap (λ (u : List ℕ). found || scan last u) (sym c) ∙ inv
-
-pub scan-end : (w : List ℕ) (i last : ℕ) (found : Bool) → length w ≤ i → Found w i last found
-    → found ≡ hasOne (map bytes ("W" ∷ "K" ∷ "CZ" ∷ [])) (upper w)
-unfolding scan
-scan-end w i last found h inv =
-    let l : length (upper w) ≤ i = rw length-upper h in
-    let e : drop i (upper w) ≡ [] = drop-of-length-le (upper w) l in
-    sym (or-false found) ∙ ap (λ (u : List ℕ). found || scan last u) (sym e) ∙ inv ∙ scan-has 0 (upper w)
-
--- at the front all is found
-pub found-all : (ts : List (List ℕ)) (u : List ℕ) (i : ℕ) (found : Bool) → i ≤ 0 → found ≡ hasOne ts (drop i u) → found ≡ hasOne ts u
-found-all ts u zero found h e = e
-found-all ts u (suc i) found h e = absurd (omega arith)
-
 -- a window at a place is the window at the front of what stands there
 here : (u : List ℕ) (i n : ℕ) (t : List ℕ) → i ≤ length u → isAt u i n t ≡ isAt (drop i u) 0 n t
 unfolding isAt
@@ -125,41 +94,23 @@ here u i n t h = ap (λ (q : Bool). q && same (take n (drop i u)) t) (fits (leb 
     fits true e = let l = leb-true n (length (drop i u)) e in rw (zero-add, e) (le-leb (i + n) (length u) (omega (arith, length-drop i u)))
     fits false e = let l = leb-false n (length (drop i u)) e in rw (zero-add, e) (lt-leb (i + n) (length u) (omega (arith, length-drop i u)))
 
-pub witz-turn : (w : List ℕ) (i : ℕ) (q found : Bool) → 0 < i → i ≤ length w → q ≡ isAt (upper w) (i - 1) 4 (bytes "WITZ")
-    → found ≡ hasOne (map bytes ("WITZ" ∷ [])) (drop i (upper w)) → (q || found) ≡ hasOne (map bytes ("WITZ" ∷ [])) (drop (i - 1) (upper w))
-unfolding beginsOne
-witz-turn w zero q found z h eq ef = absurd (omega arith)
-witz-turn w (suc i) q found z h eq ef =
-    let s : suc i - 1 ≡ i = omega arith in
+pub scan-turn : (w : List ℕ) (i b last : ℕ) (q found : Bool) → i < length w → b ≡ up (getD w i 0)
+    → q ≡ (eqb b 87 || isAt (upper w) i 4 (bytes "WITZ")) → Found w i last found
+    → Found w (i + 1) b (found || ((q || eqb b 75) || (eqb b 90 && eqb last 67)))
+unfolding scan
+scan-turn w i b last q found h eb eq inv =
     let k : i < length (upper w) = rw length-upper h in
-    rw s
-    (sym (has-cons (map bytes ("WITZ" ∷ [])) (upper w) i k
-    ∙ ap₂ _||_
-    (or-false (isAt (drop i (upper w)) 0 4 (bytes "WITZ")) ∙ sym (here (upper w) i 4 (bytes "WITZ") (omega arith)) ∙ sym (rw s at eq))
-    (sym ef)))
+    let c : drop i (upper w) ≡ b ∷ drop (i + 1) (upper w) =
+    rw add-one (drop-cons (upper w) i 0 k ∙ ap (λ (x : ℕ). x ∷ drop (suc i) (upper w)) (getD-upper w i ∙ sym eb)) in
+    let n : q ≡ (eqb b 87 || isAt (b ∷ drop (i + 1) (upper w)) 0 4 (bytes "WITZ")) =
+    eq ∙ ap (λ (x : Bool). eqb b 87 || x) (here (upper w) i 4 (bytes "WITZ") (omega arith) ∙ ap (λ (u : List ℕ). isAt u 0 4 (bytes "WITZ")) c) in
+    found-more found ((q || eqb b 75) || (eqb b 90 && eqb last 67)) (scan b (drop (i + 1) (upper w)))
+    ∙ ap (λ (x : Bool). found || (((x || eqb b 75) || (eqb b 90 && eqb last 67)) || scan b (drop (i + 1) (upper w)))) n
+    ∙ ap (λ (u : List ℕ). found || scan last u) (sym c) ∙ inv
 
--- ---- the mark is W, K or CZ, or it is WITZ
-four-tests : (a b c d e f : Bool) → ((a || (b || (c || (d || false)))) || (e || f)) ≡ (((a || (b || (c || false))) || e) || ((d || false) || f))
-four-tests true b c d e f = refl
-four-tests false true c d e f = refl
-four-tests false false true d e f = refl
-four-tests false false false true true f = refl
-four-tests false false false true false f = refl
-four-tests false false false false true f = refl
-four-tests false false false false false f = refl
-
-has-both : (u : List ℕ) → hasOne (map bytes ("W" ∷ "K" ∷ "CZ" ∷ "WITZ" ∷ [])) u ≡ (hasOne (map bytes ("W" ∷ "K" ∷ "CZ" ∷ [])) u || hasOne (map bytes ("WITZ" ∷ [])) u)
-unfolding hasOne beginsOne
-has-both [] = refl
-has-both (b ∷ u) =
-    ap (λ (q : Bool). beginsOne (map bytes ("W" ∷ "K" ∷ "CZ" ∷ "WITZ" ∷ [])) (b ∷ u) || q) (has-both u)
-    ∙ four-tests (isAt (b ∷ u) 0 1 (bytes "W")) (isAt (b ∷ u) 0 1 (bytes "K")) (isAt (b ∷ u) 0 2 (bytes "CZ")) (isAt (b ∷ u) 0 4 (bytes "WITZ"))
-    (hasOne (map bytes ("W" ∷ "K" ∷ "CZ" ∷ [])) u) (hasOne (map bytes ("WITZ" ∷ [])) u)
-
-pub mark-yes : (u : List ℕ) → true ≡ hasOne (map bytes ("W" ∷ "K" ∷ "CZ" ∷ [])) u → true ≡ slavoGermanic u
-unfolding slavoGermanic
-mark-yes u e = sym (has-both u ∙ ap (λ (q : Bool). q || hasOne (map bytes ("WITZ" ∷ [])) u) (sym e))
-
-pub mark-last : (u : List ℕ) (r : Bool) → false ≡ hasOne (map bytes ("W" ∷ "K" ∷ "CZ" ∷ [])) u → r ≡ hasOne (map bytes ("WITZ" ∷ [])) u → r ≡ slavoGermanic u
-unfolding slavoGermanic
-mark-last u r e f = f ∙ sym (has-both u ∙ ap (λ (q : Bool). q || hasOne (map bytes ("WITZ" ∷ [])) u) (sym e))
+pub scan-end : (w : List ℕ) (i last : ℕ) (found : Bool) → length w ≤ i → Found w i last found → found ≡ slavoGermanic (upper w)
+unfolding scan slavoGermanic
+scan-end w i last found h inv =
+    let l : length (upper w) ≤ i = rw length-upper h in
+    let e : drop i (upper w) ≡ [] = drop-of-length-le (upper w) l in
+    sym (or-false found) ∙ ap (λ (u : List ℕ). found || scan last u) (sym e) ∙ inv ∙ scan-has 0 (upper w)

@@ -22,8 +22,11 @@ hasOne ts [] = false
 hasOne ts (b ∷ u) = beginsOne ts (b ∷ u) || hasOne ts u
 
 -- the mark: the word, in capitals, has W, K, CZ or WITZ
+abbrev pub markTexts : List (List ℕ)
+markTexts = map bytes ("W" ∷ "K" ∷ "CZ" ∷ "WITZ" ∷ [])
+
 unfoldable pub slavoGermanic : List ℕ → Bool
-slavoGermanic u = hasOne (map bytes ("W" ∷ "K" ∷ "CZ" ∷ "WITZ" ∷ [])) u
+slavoGermanic u = hasOne markTexts u
 
 -- the first letter of a word that begins so is silent, and the walk starts behind it
 abbrev pub silentStarts : List (List ℕ)

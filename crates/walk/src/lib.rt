@@ -1,6 +1,6 @@
 // The walk over a trimmed word: the Slavo-Germanic mark, the silent start, and the loop that visits place after place and writes
 // what each visit adds, clipped to the limit. Of the letter rules it uses the promise of `visit_at` alone.
-mod mark;
+pub mod mark;
 
 use rules::Add;
 ghost use mathlib.Core.Path.{_≡_};
@@ -8,27 +8,15 @@ ghost use Prim.Native.Nat.{_+_, _-_, _≤_, _<_, min};
 ghost use lib.ListN.{length, take};
 ghost use lib.Seq.{sets};
 ghost use mathlib.Core.List.{[], _∷_};
-ghost use Rattle.windows.specs.Text.{upper};
 ghost use Rattle.rules.specs.Kept.{bytesOf};
 ghost use Rattle.walk.specs.Walk.{filled, tallyOf};
-ghost use Rattle.walk.specs.Word.{slavoGermanic, startOf, limitedOf};
+ghost use Rattle.walk.specs.Word.{startOf, limitedOf};
 
 // Both code lengths and the count of visits.
 pub struct Tally {
     pub primary: usize,
     pub alternate: usize,
     pub visits: usize,
-}
-
-// Whether the word has W, K, CZ or WITZ.
-pub fn is_slavo_germanic(w: &[u8]) -> bool
-    ensures { λ r. ⌜ r ≡ slavoGermanic (upper (now (w .entry))) ⌝ }
-{
-    if mark::has_w_k_cz(w) {
-        true
-    } else {
-        mark::has_witz(w)
-    }
 }
 
 // The place of the first visit: 1 where the first letter is silent.
@@ -88,7 +76,7 @@ pub fn walk(w: &[u8], limit: usize, p: &mut [u8], a: &mut [u8]) -> Tally
     ensures primary { λ r. ⌜ now (p .exit) ≡ filled (limitedOf limit (now (w .entry)) .primary) (now (p .entry)) ⌝ }
     ensures alternate { λ r. ⌜ now (a .exit) ≡ filled (limitedOf limit (now (w .entry)) .alternate) (now (a .entry)) ⌝ }
 {
-    let slavo = is_slavo_germanic(w);
+    let slavo = mark::is_slavo_germanic(w);
     let mut at = start_of(w);
     let mut np = 0;
     let mut na = 0;

@@ -1,34 +1,34 @@
 // The Slavo-Germanic mark.
 ghost use mathlib.Core.Path.{_≡_};
-ghost use mathlib.Core.List.{[], _∷_, map};
+ghost use mathlib.Core.Bool.{_||_};
+ghost use lib.Dec.{eqb};
 ghost use Rattle.windows.specs.Text.{bytes, upper};
-ghost use Rattle.walk.specs.Word.{hasOne};
+ghost use Rattle.windows.specs.Window.{isAt};
+ghost use Rattle.walk.specs.Word.{slavoGermanic};
 
-// The word has W, K or CZ. One read a byte and no early exit, so that a compiler can do many bytes at a time.
-pub fn has_w_k_cz(w: &[u8]) -> bool
-    ensures { λ r. ⌜ r ≡ hasOne (map bytes ("W" ∷ "K" ∷ "CZ" ∷ [])) (upper (now (w .entry))) ⌝ }
+// Whether the word has W, K, CZ or WITZ. One read a byte and no early exit, so that a compiler can do many bytes at a time.
+pub fn is_slavo_germanic(w: &[u8]) -> bool
+    ensures { λ r. ⌜ r ≡ slavoGermanic (upper (now (w .entry))) ⌝ }
 {
     let mut found = false;
     let mut last = 0;
     let mut i = 0;
     while i < w.len() {
         let b = windows::capital(w[i]);
-        found = found | ((b == b'W') | (b == b'K') | (b == b'Z') & (last == b'C'));
+        found = found | (has_w_or_witz(w, i, b) | (b == b'K') | (b == b'Z') & (last == b'C'));
         last = b;
         i += 1;
     }
     found
 }
 
-// The word has WITZ.
-pub fn has_witz(w: &[u8]) -> bool
-    ensures { λ r. ⌜ r ≡ hasOne (map bytes ("WITZ" ∷ [])) (upper (now (w .entry))) ⌝ }
+// `b`, the capital at `at`, is W, or WITZ stands there. WITZ is asked only where no W is found, as in the Rust.
+fn has_w_or_witz(w: &[u8], at: usize, b: u8) -> bool
+    ensures { λ r. ⌜ r ≡ (eqb b 87 || isAt (upper (now (w .entry))) at 4 (bytes "WITZ")) ⌝ }
 {
-    let mut found = false;
-    let mut i = w.len();
-    while 0 < i {
-        i -= 1;
-        found = windows::window_is(w, i, 4, b"WITZ") | found;
+    if b == b'W' {
+        true
+    } else {
+        windows::window_is(w, at, 4, b"WITZ")
     }
-    found
 }

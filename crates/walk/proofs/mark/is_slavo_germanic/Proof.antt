@@ -1,11 +1,11 @@
--- `walk::mark::has_w_k_cz` meets its contract. The invariant: what was found, with what the scan from `i` on finds, is what the
--- scan of the whole word finds. Assumes nothing.
+-- `walk::mark::is_slavo_germanic` meets its contract. The invariant: what was found, with what the scan from `i` on finds, is what
+-- the scan of the whole word finds. Assumes nothing.
 use Prim.Native.Nat.{_-_}
 use borrow.Author.Needs.{needs}
 use lib.ListN.{length}
 use Rattle.walk.proofs.Word.{Found, scan-start, scan-turn, scan-end}
-use Rattle.walk.proofs.mark.has_w_k_cz.Statement.{statement}
-use Rattle.walk.proofs.mark.has_w_k_cz.Tie as tie
+use Rattle.walk.proofs.mark.is_slavo_germanic.Statement.{statement}
+use Rattle.walk.proofs.mark.is_slavo_germanic.Tie as tie
 
 abbrev Inv-loop : tie.InvT-loop
 Inv-loop w found₀ last₀ i₀ found last i = Found w i last found
@@ -13,8 +13,8 @@ Inv-loop w found₀ last₀ i₀ found last i = Found w i last found
 abbrev μ-loop : tie.MeasureT-loop
 μ-loop w found₀ last₀ i₀ found last i = length w - i
 
-pub has-w-k-cz-spec : {M : Type 1} → statement M
-has-w-k-cz-spec =
+pub is-slavo-germanic-spec : {M : Type 1} → statement M
+is-slavo-germanic-spec =
     tie.close
     (tie.spec
     Inv-loop
@@ -22,9 +22,10 @@ has-w-k-cz-spec =
     (λ c. scan-start (c .before .args .w .now))
     (λ c. search needs)
     (λ c κs. search needs)
+    (λ c κs. search needs)
     (λ c. search needs)
     (λ c. search needs)
     (λ c.
-    let h = c .before .before .before in
-    scan-turn _ _ _ (h .loop .last) (h .loop .found) (c .before .before .loop-test .taken) (c .capital .ensures) (h .loop .inv))
+    let h = c .before .before .before .before in
+    scan-turn _ _ _ (h .loop .last) _ (h .loop .found) (c .before .before .before .loop-test .taken) (c .before .capital .ensures) (c .has-w-or-witz .ensures) (h .loop .inv))
     (λ c. scan-end _ _ (c .before .loop .last) _ (c .loop-test .left) (c .before .loop .inv)))

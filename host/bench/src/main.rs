@@ -29,15 +29,15 @@ fn main() -> io::Result<()> {
         println!("bench: NOT RUN, there is nothing to time the port beside: {NOT_AT_HAND}");
         return Ok(());
     };
+    let lists = lists();
     let mut rows: Vec<Row> = Vec::new();
-    for (list, words) in lists() {
+    for (list, words) in &lists {
         for limit in LIMITS {
-            rows.push(measure(&oracle, &list, &words, limit));
+            rows.push(measure(&oracle, list, words, limit));
         }
     }
-    let gauges = &lists()[0].1;
-    let text = report::page(&rows, gauges);
-    print!("{}", report::table(&rows));
-    println!("{}", report::targets(&rows));
-    fs::write(Path::new(env!("CARGO_MANIFEST_DIR")).join("../../docs/BENCHMARKS.md"), text)
+    println!("{}\n{}", report::table(&rows), report::targets(&rows));
+    let (_, gauges) = &lists[0];
+    let page = Path::new(env!("CARGO_MANIFEST_DIR")).join("../../docs/BENCHMARKS.md");
+    fs::write(page, report::page(&rows, gauges))
 }

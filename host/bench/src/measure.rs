@@ -4,9 +4,14 @@ use std::hint::black_box;
 use std::time::Instant;
 
 /// Rounds a row takes the median of.
-const ROUNDS: usize = 11;
-/// Each of the three is timed for about this long a round.
-const SECONDS: f64 = 0.02;
+pub const ROUNDS: usize = 301;
+
+/// The crate takes about this long a round. A scheduler's slice is longer, so that most rounds are left alone where other
+/// programs run too, and the slower of two is not stopped much more often than the faster.
+const SECONDS: f64 = 0.001;
+
+/// Encodes every word of a list.
+type Pass<'a> = &'a dyn Fn(&[String]);
 
 /// Words a second, each the median of all rounds.
 pub struct Row {
@@ -15,59 +20,54 @@ pub struct Row {
     pub rust: f64,
     pub port: f64,
     pub wrapper: f64,
-    /// The median of the rounds' ratios of port to Rust.
+    /// The median of the rounds' ratios of port to crate.
     pub ratio: f64,
     pub wrapper_ratio: f64,
 }
 
-/// Times the Rust, the port on lent buffers and the wrapper that makes strings, in turns.
+/// Times the crate, the port on lent buffers and the wrapper that makes strings. Each round is a further stretch of the list, the
+/// same for all three, and another of them goes first.
 pub fn measure(oracle: &Oracle, list: &str, words: &[String], limit: Option<usize>) -> Row {
     same_codes(oracle, words, limit);
-    let mut rust = Timed::new(words.len(), || oracle.pass(words, limit));
-    let mut port = Timed::new(words.len(), || port_pass(words, limit));
-    let mut wrapper = Timed::new(words.len(), || wrapper_pass(words, limit));
-    for _ in 0..ROUNDS {
-        rust.round();
-        port.round();
-        wrapper.round();
+    let rust = |words: &[String]| oracle.pass(words, limit);
+    let port = |words: &[String]| port_pass(words, limit);
+    let wrapper = |words: &[String]| wrapper_pass(words, limit);
+    let passes: [Pass; 3] = [&rust, &port, &wrapper];
+
+    let stretch = ((SECONDS * rate(&rust, words)) as usize).clamp(1, words.len());
+    let mut rates = [(); 3].map(|_| Vec::with_capacity(ROUNDS));
+    for (round, words) in words.chunks_exact(stretch).cycle().take(ROUNDS).enumerate() {
+        for turn in 0..3 {
+            let which = (round + turn) % 3;
+            rates[which].push(rate(passes[which], words));
+        }
     }
-    let ratio = |rates: &[f64]| median(rates.iter().zip(&rust.rates).map(|(own, rust)| own / rust).collect());
+    let [rust, port, wrapper] = rates;
     Row {
         list: list.to_string(),
         limit,
-        ratio: ratio(&port.rates),
-        wrapper_ratio: ratio(&wrapper.rates),
-        rust: median(rust.rates),
-        port: median(port.rates),
-        wrapper: median(wrapper.rates),
+        ratio: median(ratios(&port, &rust)),
+        wrapper_ratio: median(ratios(&wrapper, &rust)),
+        rust: median(rust),
+        port: median(port),
+        wrapper: median(wrapper),
     }
 }
 
-/// A pass over the words and, by round, how many words a second it took.
-struct Timed<F> {
-    pass: F,
-    words: f64,
-    passes: usize,
-    rates: Vec<f64>,
+/// Words a second of one pass.
+fn rate(pass: Pass, words: &[String]) -> f64 {
+    let start = Instant::now();
+    pass(words);
+    words.len() as f64 / start.elapsed().as_secs_f64()
 }
 
-impl<F: Fn()> Timed<F> {
-    /// Warms up and finds how many passes a round takes.
-    fn new(words: usize, pass: F) -> Self {
-        pass();
-        let start = Instant::now();
-        pass();
-        let passes = (SECONDS / start.elapsed().as_secs_f64()).ceil() as usize;
-        Timed { pass, words: words as f64, passes, rates: Vec::new() }
-    }
+fn ratios(rates: &[f64], others: &[f64]) -> Vec<f64> {
+    rates.iter().zip(others).map(|(rate, other)| rate / other).collect()
+}
 
-    fn round(&mut self) {
-        let start = Instant::now();
-        for _ in 0..self.passes {
-            (self.pass)();
-        }
-        self.rates.push(self.words * self.passes as f64 / start.elapsed().as_secs_f64());
-    }
+fn median(mut numbers: Vec<f64>) -> f64 {
+    numbers.sort_by(f64::total_cmp);
+    numbers[numbers.len() / 2]
 }
 
 fn port_pass(words: &[String], limit: Option<usize>) {
@@ -94,9 +94,4 @@ fn same_codes(oracle: &Oracle, words: &[String], limit: Option<usize>) {
         let got = encoder.double_metaphone(word).map(|got| (got.primary().to_string(), got.alternate().to_string()));
         assert_eq!(got, Ok((expected.primary, expected.alternate)), "{word:?} under {limit:?}");
     }
-}
-
-fn median(mut rates: Vec<f64>) -> f64 {
-    rates.sort_by(f64::total_cmp);
-    rates[rates.len() / 2]
 }

@@ -1,8 +1,8 @@
-use crate::measure::Row;
+use crate::measure::{Row, ROUNDS};
 use std::env::consts::{ARCH, OS};
 use std::thread;
 
-/// Nowhere may the port be less than this times as fast as the Rust.
+/// How many times as fast as the crate the port is wanted to be, at the least.
 const ANYWHERE: f64 = 1.8;
 /// On gauge names, at each limit.
 const ON_GAUGES: f64 = 2.5;
@@ -21,13 +21,13 @@ impl Row {
 
 pub fn table(rows: &[Row]) -> String {
     let mut text = String::from(
-        "| words | limit | Rust | port | ratio | wanted | wrapper | ratio |\n|---|---|--:|--:|--:|--:|--:|--:|\n",
+        "| words | limit | crate | port | ratio | wanted | wrapper | ratio |\n|---|---|--:|--:|--:|--:|--:|--:|\n",
     );
     for row in rows {
-        let limit = row.limit.map_or("none".to_string(), |limit| limit.to_string());
         text += &format!(
-            "| {} | {limit} | {} | {} | {:.2} | {:.1} | {} | {:.2} |\n",
+            "| {} | {} | {} | {} | {:.2} | {:.1} | {} | {:.2} |\n",
             row.list,
+            limit(row),
             thousands(row.rust),
             thousands(row.port),
             row.ratio,
@@ -37,6 +37,10 @@ pub fn table(rows: &[Row]) -> String {
         );
     }
     text
+}
+
+fn limit(row: &Row) -> String {
+    row.limit.map_or("none".to_string(), |limit| limit.to_string())
 }
 
 /// Words a second in thousands.
@@ -49,7 +53,7 @@ pub fn targets(rows: &[Row]) -> String {
     let missed: Vec<String> = rows
         .iter()
         .filter(|row| row.ratio < row.target())
-        .map(|row| format!("{} at {:?}: {:.2} of {:.1}", row.list, row.limit, row.ratio, row.target()))
+        .map(|row| format!("{}, limit {}: {:.2} of {:.1}", row.list, limit(row), row.ratio, row.target()))
         .collect();
     if missed.is_empty() {
         "Every ratio reaches what is wanted.".to_string()
@@ -64,9 +68,9 @@ pub fn page(rows: &[Row], gauges: &[String]) -> String {
     format!(
         "# Benchmarks
 
-Words a second, in thousands: the unchanged double_metaphone.rs of rphonetic 4.0.0 (Rust), the proved port on lent buffers (port), and
-the port behind the Rust wrapper that returns two strings (wrapper), each beside its ratio to the Rust. All three take both codes of
-every word. They take turns over the same words in one run, on one thread; a number is the median of eleven rounds.
+Words a second, in thousands: the unchanged double_metaphone.rs of rphonetic 4.0.0 (crate), the proved port on lent buffers (port), \
+and the port behind the Rust wrapper that returns two strings (wrapper), each with its ratio to the crate. All three make both \
+codes of every word. They take turns over the same words in one run, on one thread; a number is the median of {ROUNDS} rounds.
 
 The gauge names are {} lines of {:.1} bytes on average. Words of a given length are gauge names with a space between, cut off there.
 

@@ -107,13 +107,10 @@ fn damaged(rng: &mut Rng) -> Vec<u8> {
 
 /// Puts blank bytes, or bytes that are nearly blank, over a few at either end.
 fn blank_ends(rng: &mut Rng, word: &mut [u8]) {
-    let length = word.len();
-    for at in 0..rng.below(4).min(length) {
-        word[at] = ENDS[rng.below(ENDS.len())];
-    }
-    for back in 0..rng.below(4).min(length) {
-        word[length - 1 - back] = ENDS[rng.below(ENDS.len())];
-    }
+    let (before, behind) = (rng.below(4), rng.below(4));
+    let mut end = || ENDS[rng.below(ENDS.len())];
+    word.iter_mut().take(before).for_each(|byte| *byte = end());
+    word.iter_mut().rev().take(behind).for_each(|byte| *byte = end());
 }
 
 /// A word that may well have the same codes as another: other case, other vowels, blank ends, a byte lost or doubled.
@@ -127,7 +124,9 @@ pub fn alike(rng: &mut Rng, word: &[u8]) -> Vec<u8> {
             _ => 1,
         };
         let byte = if rng.once_in(4) { byte ^ (32 * u8::from(byte.is_ascii_alphabetic())) } else { byte };
-        other.extend(std::iter::repeat(byte).take(times));
+        for _ in 0..times {
+            other.push(byte);
+        }
     }
     if rng.once_in(4) {
         other.push(b' ');

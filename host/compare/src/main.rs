@@ -66,8 +66,12 @@ fn main() -> ExitCode {
 
 fn report(outcome: &Outcome) -> ExitCode {
     let [accepted, long, high, primary, alternate] = outcome.numbers.map(grouped);
-    println!("compare: {} on every short word, {} on drawn words, {} on pairs of words",
-        grouped(outcome.every), grouped(outcome.drawn), grouped(outcome.pairs));
+    println!(
+        "compare: {} on every short word, {} on drawn words, {} on pairs of words",
+        grouped(outcome.every),
+        grouped(outcome.drawn),
+        grouped(outcome.pairs)
+    );
     println!("compare: accepted {accepted}; refused by 1 {long}, by 2 {high}, by 3 {primary}, by 4 {alternate}");
     let comparisons = grouped(outcome.comparisons());
     match &outcome.difference {
@@ -85,6 +89,7 @@ fn report(outcome: &Outcome) -> ExitCode {
 /// 1234567 as 1,234,567.
 fn grouped(number: u64) -> String {
     let digits = number.to_string();
-    let groups: Vec<&str> = digits.as_bytes().rchunks(3).rev().map(|group| std::str::from_utf8(group).unwrap_or("")).collect();
+    let groups: Vec<&str> =
+        digits.as_bytes().rchunks(3).rev().map(|group| std::str::from_utf8(group).unwrap_or("")).collect();
     groups.join(",")
 }

@@ -27,6 +27,7 @@ extern "C" {
 }
 
 /// Number, place, primary length, alternate length, visits.
+#[inline]
 pub fn encode(word: &[u8], primary: &mut [u8], alternate: &mut [u8], limit: Option<u64>) -> [u64; 5] {
     let mut out = [0; 5];
     // SAFETY: the function's contract asks nothing of its caller, so any word, any two buffers and any limit may be
@@ -50,6 +51,7 @@ pub fn encode(word: &[u8], primary: &mut [u8], alternate: &mut [u8], limit: Opti
 }
 
 /// Number, which word, place, and 1 for equal.
+#[inline]
 pub fn equal(first: &[u8], second: &[u8], limit: Option<u64>, alternate: bool) -> [u64; 4] {
     let mut out = [0; 4];
     // SAFETY: as above. Both words are only read, so they may be one and the same.

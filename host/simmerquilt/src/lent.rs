@@ -45,6 +45,7 @@ impl Answer {
 /// let answer = simmerquilt::encode_into(b"KXZ", &mut primary[..4], &mut alternate, None);
 /// assert_eq!(answer.refusal(), Some(simmerquilt::Refusal::PrimaryShort));
 /// ```
+#[inline]
 pub fn encode_into(word: &[u8], primary: &mut [u8], alternate: &mut [u8], limit: Option<u64>) -> Answer {
     let [number, place, primary, alternate, visits] = face::encode(word, primary, alternate, limit);
     Answer {
@@ -87,6 +88,7 @@ impl Verdict {
 /// ```
 /// assert_eq!(simmerquilt::ask_equal(b"Villa", b"Fillo", None, false).result(), Ok(true));
 /// ```
+#[inline]
 pub fn ask_equal(first: &[u8], second: &[u8], limit: Option<u64>, alternate: bool) -> Verdict {
     let [number, word, place, equal] = face::equal(first, second, limit, alternate);
     Verdict { number, word, place: place as usize, equal }

@@ -53,7 +53,6 @@ fn text_and_bytes_are_one_word() {
     assert_eq!(encoder.encode(b"Thames").unwrap(), expected);
     assert_eq!(encoder.encode(&b"Thames"[..]).unwrap(), expected);
     assert_eq!(encoder.encode(String::from("Thames")).unwrap(), expected);
-    assert_eq!(encoder.encode(&String::from("Thames")).unwrap(), expected);
 }
 
 #[test]

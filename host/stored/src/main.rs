@@ -8,29 +8,14 @@
 use oracle::{Oracle, NOT_AT_HAND};
 use std::io::{self, BufWriter, Write};
 use std::process::exit;
+use words::{Rng, FRAGMENTS};
 
 const WORDS: usize = 12_000;
 const LONG_WORDS: usize = 160;
 const WORD_LIMIT: usize = 1024;
 
-/// What the letter rules ask for, and what surrounds it.
-#[rustfmt::skip]
-const FRAGMENTS: &[&str] = &[
-    "A", "E", "I", "O", "U", "Y", " ", "A", "E", "I", "O", "U", "Y", " ",
-    "B", "C", "D", "F", "G", "H", "J", "K", "L", "M", "N", "P", "Q", "R", "S", "T", "V", "W", "X", "Z",
-    "GN", "KN", "PN", "WR", "PS", "CZ", "WITZ", "WICZ", "CHIA", "ACH", "ACHI", "ACHE", "BACHER", "MACHER", "CAESAR", "CH", "CHAE",
-    "CHARAC", "CHARIS", "CHOR", "CHYM", "CHEM", "CHORE", "VAN", "VON", "VAN ", "VON ", "SCH", "ORCHES", "ARCHIT", "ORCHID",
-    "CHT", "CHS", "ACHL", "OCHR", "UCHN", "ECHM", "ACH ", "MC", "CCIA", "CC", "CCI", "CCE", "CCH", "CCHU", "ACCE", "UCCEE", "UCCES",
-    "CK", "CG", "CQ", "CI", "CE", "CY", "CIO", "CIE", "CIA", "C C", "C Q", "C G", "DG", "DGE", "DGI", "DGY", "DT", "DD",
-    "GH", "GHI", "GHT", "BOUGH", "HUGH", "DAUGH", "LAUGH", "COUGH", "ROUGH", "IGH", "GNEY", "GLI", "GES", "GEP", "GEB", "GEL", "GEY",
-    "GIB", "GIL", "GIN", "GIE", "GEI", "GER", "GY", "DANGER", "RANGER", "MANGER", "RGY", "OGY", "EGER", "AGGI", "OGGI", "GET", "GIER",
-    "GG", "HH", "AHA", "JOSE", "JOSE ", "SAN ", "AJA", "OJO", "JJ", "SJ", "KJ", "LJ", "JL", "JT", "JZ", "AJ", "ILLO", "ILLA", "ALLE",
-    "AS", "OS", "LL", "UMB", "UMBER", "MM", "PH", "PP", "PB", "IER", "MEIER", "MAIER", "RR", "ISL", "YSL", "SUGAR", "SH", "SHEIM",
-    "SHOEK", "SHOLM", "SHOLZ", "SIO", "SIA", "SIAN", "SM", "SN", "SL", "SW", "SZ", "SC", "SCHOO", "SCHER", "SCHEN", "SCHUY", "SCHED",
-    "SCHEM", "SCHW", "SCI", "SCE", "SCY", "AIS", "OIS", "SS", "TION", "TIA", "TCH", "TH", "TTH", "THOM", "THAM", "TT", "TD", "WH",
-    "AW", "EWSKI", "EWSKY", "OWSKI", "OWSKY", "IAUX", "EAUX", "AUX", "OUX", "XC", "XX", "ZH", "ZZO", "ZZI", "ZZA", "TZ", "ZZ", "XZ",
-    "1", "-", "'", ".", "\0", "\t", "\u{7f}",
-];
+/// Bytes that no rule asks for, drawn beside the fragments of the rules.
+const ODD: &[&str] = &["\0", "\t", "\u{7f}"];
 
 /// The names of the rules' own examples.
 #[rustfmt::skip]
@@ -44,19 +29,6 @@ const NAMES: &[&str] = &[
 /// Bytes at an end: blanks, which are trimmed, and their neighbours, which are not.
 const ENDS: &[u8] = b"\x09\x0b\x0c\x0d \x08\x0e\x1c\x1f";
 
-/// Numbers that look random and come again from the same seed (splitmix64).
-struct Rng(u64);
-
-impl Rng {
-    fn below(&mut self, end: usize) -> usize {
-        self.0 = self.0.wrapping_add(0x9e37_79b9_7f4a_7c15);
-        let mut mixed = self.0;
-        mixed = (mixed ^ (mixed >> 30)).wrapping_mul(0xbf58_476d_1ce4_e5b9);
-        mixed = (mixed ^ (mixed >> 27)).wrapping_mul(0x94d0_49bb_1331_11eb);
-        ((mixed ^ (mixed >> 31)) % end as u64) as usize
-    }
-}
-
 fn letters(rng: &mut Rng, length: usize) -> String {
     (0..length).map(|_| (b"Aa"[rng.below(2)] + rng.below(26) as u8) as char).collect()
 }
@@ -64,7 +36,8 @@ fn letters(rng: &mut Rng, length: usize) -> String {
 fn fragments(rng: &mut Rng, length: usize) -> String {
     let mut word = String::new();
     while word.len() < length {
-        let fragment = FRAGMENTS[rng.below(FRAGMENTS.len())];
+        let at = rng.below(FRAGMENTS.len() + ODD.len());
+        let fragment = if at < FRAGMENTS.len() { FRAGMENTS[at] } else { ODD[at - FRAGMENTS.len()] };
         if rng.below(2) == 0 {
             word.push_str(fragment);
         } else {
@@ -117,7 +90,7 @@ fn main() -> io::Result<()> {
         eprintln!("stored: {NOT_AT_HAND}");
         exit(1);
     };
-    let mut rng = Rng(0x5113_3e7c);
+    let mut rng = Rng::plain(0x5113_3e7c);
     let mut out = BufWriter::new(io::stdout().lock());
     for (at, word) in words(&mut rng).iter().enumerate() {
         assert!(word.len() <= WORD_LIMIT && word.bytes().all(|byte| byte < 128 && byte != b'\n'));

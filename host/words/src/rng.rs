@@ -11,6 +11,11 @@ impl Rng {
         Rng(mixed.next() ^ stream.wrapping_mul(STEP))
     }
 
+    /// The seed itself as the first state, for a list that one run draws in order.
+    pub fn plain(seed: u64) -> Self {
+        Rng(seed)
+    }
+
     fn next(&mut self) -> u64 {
         self.0 = self.0.wrapping_add(STEP);
         let mut mixed = self.0;

@@ -10,6 +10,16 @@ ghost use Rattle.rules.specs.CasesDL.{casesD};
 pub fn handle_d(w: &[u8], at: usize) -> Visit
     ensures { λ r. ⌜ r ≡ first casesD (upper (now (w .entry))) at plain ⌝ }
 {
+    match windows::next(w, at) {
+        b'D' | b'G' | b'T' => handle_d_before(w, at),
+        _ => Visit::both(Add::One(b'T'), 0),
+    }
+}
+
+// D before a byte that some case asks for.
+fn handle_d_before(w: &[u8], at: usize) -> Visit
+    ensures { λ r. ⌜ r ≡ first casesD (upper (now (w .entry))) at plain ⌝ }
+{
     if windows::ahead(w, at, 0, 2, b"DG") {
         if windows::ahead(w, at, 2, 1, b"IEY") {
             Visit::both(Add::One(b'J'), 2)

@@ -13,6 +13,17 @@ ghost use Rattle.letters_g.specs.Trees.{treeGH, treeGN, treeGGI, treeGLa
 pub fn handle_g(w: &[u8], at: usize, slavo: bool) -> Visit
     ensures { λ r. ⌜ r ≡ first casesG (upper (now (w .entry))) at (marked slavo) ⌝ }
 {
+    match windows::next(w, at) {
+        b'E' | b'G' | b'I' | b'L' | b'N' | b'Y' => handle_g_before(w, at, slavo),
+        b'H' => handle_g_before(w, at, slavo),
+        _ => Visit::both(Add::One(b'K'), 0),
+    }
+}
+
+// G before a byte that some case asks for.
+fn handle_g_before(w: &[u8], at: usize, slavo: bool) -> Visit
+    ensures { λ r. ⌜ r ≡ first casesG (upper (now (w .entry))) at (marked slavo) ⌝ }
+{
     if windows::char_ahead(w, at, 1, b'H') {
         handle_gh(w, at)
     } else if windows::char_ahead(w, at, 1, b'N') {
@@ -85,20 +96,26 @@ fn is_gli(w: &[u8], at: usize, slavo: bool) -> bool
 fn is_ger(w: &[u8], at: usize) -> bool
     ensures { λ r. ⌜ r ≡ holds ger (upper (now (w .entry))) at plain ⌝ }
 {
-    is_ger_first(w, at)
-        | (windows::ahead(w, at, 1, 2, b"ER") | windows::char_ahead(w, at, 1, b'Y'))
-            & !windows::front(w, 6, b"DANGERRANGERMANGER")
+    if is_ger_first(w, at) {
+        true
+    } else if windows::ahead(w, at, 1, 2, b"ER") | windows::char_ahead(w, at, 1, b'Y') {
+        !windows::front(w, 6, b"DANGERRANGERMANGER")
             & ((at == 0) | !windows::behind(w, at, 1, 1, b"EI"))
             & ((at == 0) | !windows::behind(w, at, 1, 3, b"RGYOGY"))
+    } else {
+        false
+    }
 }
 
 // -ges-, -gep-, -gel-, -gie- at the beginning.
 fn is_ger_first(w: &[u8], at: usize) -> bool
     ensures { λ r. ⌜ r ≡ holds gerFirst (upper (now (w .entry))) at plain ⌝ }
 {
-    (at == 0)
-        & (windows::char_ahead(w, at, 1, b'Y')
-            | windows::ahead(w, at, 1, 2, b"ESEPEBELEYIBILINIEEIER"))
+    if at == 0 {
+        windows::char_ahead(w, at, 1, b'Y') | windows::ahead(w, at, 1, 2, b"ESEPEBELEYIBILINIEEIER")
+    } else {
+        false
+    }
 }
 
 // Italian, "biaggi".

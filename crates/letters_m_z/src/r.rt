@@ -22,9 +22,9 @@ pub fn handle_r(w: &[u8], at: usize, slavo: bool) -> Visit
 fn is_rogier(w: &[u8], at: usize, slavo: bool) -> bool
     ensures { λ r. ⌜ r ≡ holds rogier (upper (now (w .entry))) at (marked slavo) ⌝ }
 {
-    (3 < at)
-        & windows::from_end(w, at, 0)
-        & !slavo
-        & windows::behind(w, at, 2, 2, b"IE")
-        & !windows::behind(w, at, 4, 2, b"MEMA")
+    if (3 < at) & windows::from_end(w, at, 0) & !slavo {
+        windows::behind(w, at, 2, 2, b"IE") & !windows::behind(w, at, 4, 2, b"MEMA")
+    } else {
+        false
+    }
 }

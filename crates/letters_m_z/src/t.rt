@@ -10,6 +10,17 @@ ghost use Rattle.rules.specs.CasesMZ.{casesT, TION, TH, thomas};
 pub fn handle_t(w: &[u8], at: usize) -> Visit
     ensures { λ r. ⌜ r ≡ first casesT (upper (now (w .entry))) at plain ⌝ }
 {
+    match windows::next(w, at) {
+        b'C' | b'H' | b'T' => handle_t_before(w, at),
+        b'D' | b'I' => handle_t_before(w, at),
+        _ => Visit::both(Add::One(b'T'), 0),
+    }
+}
+
+// T before a byte that some case asks for.
+fn handle_t_before(w: &[u8], at: usize) -> Visit
+    ensures { λ r. ⌜ r ≡ first casesT (upper (now (w .entry))) at plain ⌝ }
+{
     if is_tion(w, at) {
         Visit::both(Add::One(b'X'), 2)
     } else if is_th(w, at) {

@@ -49,7 +49,10 @@ fn is_first_w(w: &[u8], at: usize) -> bool
 fn is_arnow(w: &[u8], at: usize) -> bool
     ensures { λ r. ⌜ r ≡ holds arnow (upper (now (w .entry))) at plain ⌝ }
 {
-    (0 < at) & windows::from_end(w, at, 0) & windows::vowel_behind(w, at, 1)
-        | (0 < at) & windows::behind(w, at, 1, 5, b"EWSKIEWSKYOWSKIOWSKY")
-        | windows::front(w, 3, b"SCH")
+    if (0 < at) & windows::from_end(w, at, 0) & windows::vowel_behind(w, at, 1) {
+        true
+    } else {
+        (0 < at) & windows::behind(w, at, 1, 5, b"EWSKIEWSKYOWSKIOWSKY")
+            | windows::front(w, 3, b"SCH")
+    }
 }

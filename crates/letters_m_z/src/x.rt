@@ -34,7 +34,10 @@ fn handle_x_later(w: &[u8], at: usize) -> Visit
 fn is_sounded(w: &[u8], at: usize) -> bool
     ensures { λ r. ⌜ r ≡ holds (non breaux) (upper (now (w .entry))) at plain ⌝ }
 {
-    !(windows::from_end(w, at, 0)
-        & ((2 < at) & windows::behind(w, at, 3, 3, b"IAUEAU")
-            | (1 < at) & windows::behind(w, at, 2, 2, b"AUOU")))
+    if windows::from_end(w, at, 0) {
+        !((2 < at) & windows::behind(w, at, 3, 3, b"IAUEAU")
+            | (1 < at) & windows::behind(w, at, 2, 2, b"AUOU"))
+    } else {
+        true
+    }
 }

@@ -13,6 +13,17 @@ ghost use Rattle.letters_s.specs.Trees.{treeSNext, treeSLast, treeSH, tr
 pub fn handle_s(w: &[u8], at: usize, slavo: bool) -> Visit
     ensures { λ r. ⌜ r ≡ first casesS (upper (now (w .entry))) at (marked slavo) ⌝ }
 {
+    match windows::next(w, at) {
+        0 | b'C' | b'H' | b'L' | b'N' | b'S' | b'U' | b'W' | b'Z' => handle_s_before(w, at, slavo),
+        b'I' | b'M' => handle_s_before(w, at, slavo),
+        _ => Visit::both(Add::One(b'S'), 0),
+    }
+}
+
+// S last, or before a byte that some case asks for.
+fn handle_s_before(w: &[u8], at: usize, slavo: bool) -> Visit
+    ensures { λ r. ⌜ r ≡ first casesS (upper (now (w .entry))) at (marked slavo) ⌝ }
+{
     if is_island(w, at) {
         Visit::both(Add::Nothing, 0)
     } else if is_sugar(w, at) {
@@ -115,7 +126,11 @@ fn is_island(w: &[u8], at: usize) -> bool
 fn is_sugar(w: &[u8], at: usize) -> bool
     ensures { λ r. ⌜ r ≡ holds sugar (upper (now (w .entry))) at plain ⌝ }
 {
-    (at == 0) & windows::ahead(w, at, 0, 5, b"SUGAR")
+    if at == 0 {
+        windows::ahead(w, at, 0, 5, b"SUGAR")
+    } else {
+        false
+    }
 }
 
 // Italian and Armenian.
@@ -142,5 +157,9 @@ fn is_first_sch(w: &[u8], at: usize) -> bool
 fn is_artois(w: &[u8], at: usize) -> bool
     ensures { λ r. ⌜ r ≡ holds artois (upper (now (w .entry))) at plain ⌝ }
 {
-    (1 < at) & windows::from_end(w, at, 0) & windows::behind(w, at, 2, 2, b"AIOI")
+    if (1 < at) & windows::from_end(w, at, 0) {
+        windows::behind(w, at, 2, 2, b"AIOI")
+    } else {
+        false
+    }
 }

@@ -2,6 +2,7 @@
 --     Mode       what asks nothing of the mode says the same under any
 --     Tree       a tree and its ways answer alike; `said (search says)` closes a rule's return
 --     Row        the cases of a byte, as the arms of a match on it
+--     Next       what the next byte alone settles, and a tree without it
 --     Each       a fact that every case of the table has, every visit has
 --     Bound      an addition has at most two bytes, and at most three bytes are passed over
 --     Front      at place 0 a second byte is added only where a byte that stands there is passed over
@@ -11,6 +12,7 @@
 pub mod Mode
 pub mod Tree
 pub mod Row
+pub mod Next
 pub mod Each
 pub mod Bound
 pub mod Front

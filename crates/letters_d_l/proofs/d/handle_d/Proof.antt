@@ -1,25 +1,26 @@
--- `letters_d_l::d::handle_d` meets its contract: at each return the tests on the way lead the tree there. Assumes nothing.
+-- `letters_d_l::d::handle_d` meets its contract: before another byte than those that some case asks for, the last case answers.
+-- Assumes nothing.
+use Prim.Native.Nat.{ℕ}
 use mathlib.Core.Path.{refl}
-use Rattle.rules.specs.Cond.{holds}
-use Rattle.rules.proofs.Tree.{spoken, says}
+use mathlib.Core.Bool.{not}
+use Rattle.windows.specs.Text.{bytes}
+use Rattle.windows.specs.Window.{among}
+use Rattle.rules.specs.Tree.{run}
+use Rattle.rules.proofs.Next.{by-next, none-of}
 use Rattle.letters_d_l.specs.Trees.{treeD}
 use Rattle.letters_d_l.proofs.Ways.{ways-D}
 use Rattle.letters_d_l.proofs.d.handle_d.Statement.{statement}
 use Rattle.letters_d_l.proofs.d.handle_d.Tie as tie
 
 pub handle-d-spec : {M : Type 1} → statement M
-unfolding holds treeD
+unfolding run treeD
 handle-d-spec =
     tie.close
     (tie.spec
-    (λ c. refl) (λ c κs. tt)
-    (λ c. refl) (λ c κs. tt)
     (λ c κs. tt)
     (λ c κs. tt)
-    (λ c. refl) (λ c κs. tt)
     (λ c κs. tt)
-    (λ c κs. tt)
-    (λ c. spoken ways-D (search says depth 14))
-    (λ c. spoken ways-D (search says depth 14))
-    (λ c. spoken ways-D (search says depth 14))
-    (λ c. spoken ways-D (search says depth 14)))
+    (λ c. c .handle-d-before .ensures)
+    (λ c.
+    by-next (λ (x : ℕ). not (among (bytes "DGT") x)) treeD _ _ _ ways-D (c .before .before .next .ensures)
+    (none-of (bytes "DGT") _ (c .before .match .rest .1)) (c .both .ensures)))

@@ -12,4 +12,5 @@ is-rogier-spec =
     (λ c κs. tt)
     (λ c. refl) (λ c κs. tt)
     (λ c. refl) (λ c κs. tt)
-    (λ c. cc))
+    (λ c. rw (← c .before .before .before .before .before .from-end .ensures) (rw (c .before .before .before .before .if1 .taken) (cc)))
+    (λ c. rw (← c .before .from-end .ensures) (rw (c .if1 .left) refl)))

@@ -1,14 +1,19 @@
--- `letters_m_z::t::handle_t` meets its contract: at each return the tests on the way lead the tree there. Assumes nothing.
+-- `letters_m_z::t::handle_t` meets its contract: before another byte than those that some case asks for, the last case answers.
+-- Assumes nothing.
+use Prim.Native.Nat.{ℕ}
 use mathlib.Core.Path.{refl}
-use Rattle.rules.specs.Cond.{holds}
-use Rattle.rules.proofs.Tree.{spoken, says}
+use mathlib.Core.Bool.{not, _&&_}
+use Rattle.windows.specs.Text.{bytes}
+use Rattle.windows.specs.Window.{among}
+use Rattle.rules.specs.Tree.{run}
+use Rattle.rules.proofs.Next.{by-next, none-of-both}
 use Rattle.letters_m_z.specs.Trees.{treeT}
 use Rattle.letters_m_z.proofs.Ways.{ways-T}
 use Rattle.letters_m_z.proofs.t.handle_t.Statement.{statement}
 use Rattle.letters_m_z.proofs.t.handle_t.Tie as tie
 
 pub handle-t-spec : {M : Type 1} → statement M
-unfolding holds treeT
+unfolding run treeT
 handle-t-spec =
     tie.close
     (tie.spec
@@ -16,12 +21,8 @@ handle-t-spec =
     (λ c κs. tt)
     (λ c κs. tt)
     (λ c κs. tt)
-    (λ c κs. tt)
-    (λ c κs. tt)
-    (λ c. refl) (λ c κs. tt)
-    (λ c κs. tt)
-    (λ c κs. tt)
-    (λ c. spoken ways-T (search says depth 14))
-    (λ c. spoken ways-T (search says depth 14))
-    (λ c. spoken ways-T (search says depth 14))
-    (λ c. spoken ways-T (search says depth 14)))
+    (λ c. c .handle-t-before .ensures)
+    (λ c. c .handle-t-before2 .ensures)
+    (λ c.
+    by-next (λ (x : ℕ). not (among (bytes "CHT") x) && not (among (bytes "DI") x)) treeT _ _ _ ways-T (c .before .before .next .ensures)
+    (none-of-both (bytes "CHT") (bytes "DI") _ (c .before .match .rest .0 .1) (c .before .match .rest .1)) (c .both .ensures)))

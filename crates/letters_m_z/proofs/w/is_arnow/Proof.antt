@@ -13,4 +13,7 @@ is-arnow-spec =
     (λ c κs. tt)
     (λ c. refl) (λ c κs. tt)
     (λ c. refl) (λ c κs. tt)
-    (λ c. cc))
+    (λ c. rw (← c .before .vowel-behind .ensures) (rw (← c .before .before .from-end .ensures) (rw (c .if1 .taken) refl)))
+    (λ c.
+    let d = c .before .before .before .before in
+    rw (← d .before .vowel-behind .ensures) (rw (← d .before .before .from-end .ensures) (rw (d .if1 .left) (cc)))))

@@ -1,14 +1,14 @@
--- `letters_g::handle_g` meets its contract: at each return the tests on the way lead the tree there. Assumes nothing.
+-- `letters_g::handle_g_before` meets its contract: at each return the tests on the way lead the tree there. Assumes nothing.
 use Rattle.rules.specs.Cond.{holds}
 use Rattle.rules.proofs.Tree.{spoken, says-marked}
 use Rattle.letters_g.specs.Trees.{treeG, treeGH, treeGN, treeGLast, treeGGI}
 use Rattle.letters_g.proofs.Ways.{ways-G}
-use Rattle.letters_g.proofs.handle_g.Statement.{statement}
-use Rattle.letters_g.proofs.handle_g.Tie as tie
+use Rattle.letters_g.proofs.handle_g_before.Statement.{statement}
+use Rattle.letters_g.proofs.handle_g_before.Tie as tie
 
-pub handle-g-spec : {M : Type 1} → statement M
+pub handle-g-before-spec : {M : Type 1} → statement M
 unfolding holds treeG treeGH treeGN treeGLast treeGGI
-handle-g-spec =
+handle-g-before-spec =
     tie.close
     (tie.spec
     (λ c κs. tt)

@@ -1,0 +1,25 @@
+-- `letters_d_l::d::handle_d_before` meets its contract: at each return the tests on the way lead the tree there. Assumes nothing.
+use mathlib.Core.Path.{refl}
+use Rattle.rules.specs.Cond.{holds}
+use Rattle.rules.proofs.Tree.{spoken, says}
+use Rattle.letters_d_l.specs.Trees.{treeD}
+use Rattle.letters_d_l.proofs.Ways.{ways-D}
+use Rattle.letters_d_l.proofs.d.handle_d_before.Statement.{statement}
+use Rattle.letters_d_l.proofs.d.handle_d_before.Tie as tie
+
+pub handle-d-before-spec : {M : Type 1} → statement M
+unfolding holds treeD
+handle-d-before-spec =
+    tie.close
+    (tie.spec
+    (λ c. refl) (λ c κs. tt)
+    (λ c. refl) (λ c κs. tt)
+    (λ c κs. tt)
+    (λ c κs. tt)
+    (λ c. refl) (λ c κs. tt)
+    (λ c κs. tt)
+    (λ c κs. tt)
+    (λ c. spoken ways-D (search says depth 14))
+    (λ c. spoken ways-D (search says depth 14))
+    (λ c. spoken ways-D (search says depth 14))
+    (λ c. spoken ways-D (search says depth 14)))

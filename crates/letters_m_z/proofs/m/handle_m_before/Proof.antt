@@ -1,0 +1,17 @@
+-- `letters_m_z::m::handle_m_before` meets its contract: at each return the tests on the way lead the tree there. Assumes nothing.
+use Rattle.rules.specs.Cond.{holds}
+use Rattle.rules.proofs.Tree.{spoken, says}
+use Rattle.letters_m_z.specs.Trees.{treeM}
+use Rattle.letters_m_z.proofs.Ways.{ways-M}
+use Rattle.letters_m_z.proofs.m.handle_m_before.Statement.{statement}
+use Rattle.letters_m_z.proofs.m.handle_m_before.Tie as tie
+
+pub handle-m-before-spec : {M : Type 1} → statement M
+unfolding holds treeM
+handle-m-before-spec =
+    tie.close
+    (tie.spec
+    (λ c κs. tt)
+    (λ c κs. tt)
+    (λ c κs. tt)
+    (λ c. spoken ways-M (search says depth 14)))

@@ -41,3 +41,10 @@ treeC =
     (ask CH treeCH
     (ask czerny (say "S" "X" 1)
     treeCNext)))
+
+-- what is left of it before H, and before another byte that some case asks for
+unfoldable pub treeCBeforeH : Tree
+treeCBeforeH = ask conditionC0 (say "K" "K" 1) (ask CH treeCH (say "K" "K" 0))
+
+unfoldable pub treeCBefore : Tree
+treeCBefore = ask caesar (say "S" "S" 1) (ask czerny (say "S" "X" 1) treeCNext)

@@ -8,17 +8,37 @@ ghost use Rattle.rules.specs.Cond.{holds, plain, _or_};
 ghost use Rattle.rules.specs.Case.{first};
 ghost use Rattle.rules.specs.CasesC.{casesC, conditionC0, ach, caesar, chae, conditionCH0, conditionCH1, khBefore, vanOrVon, czerny, doubleC, bellocchio, accede, hardC};
 ghost use Rattle.rules.specs.Tree.{run};
-ghost use Rattle.letters_c.specs.Trees.{treeCH, treeCC, treeCNext, treeCLast};
+ghost use Rattle.letters_c.specs.Trees.{treeCH, treeCC, treeCNext, treeCLast, treeCBeforeH, treeCBefore};
 
 pub fn handle_c(w: &[u8], at: usize) -> Visit
     ensures { λ r. ⌜ r ≡ first casesC (upper (now (w .entry))) at plain ⌝ }
 {
+    match windows::next(w, at) {
+        b'H' => handle_c_before_h(w, at),
+        b' ' | b'A' | b'C' | b'E' | b'G' | b'I' | b'K' | b'Q' | b'Y' => handle_c_before(w, at),
+        b'Z' => handle_c_before(w, at),
+        _ => Visit::both(Add::One(b'K'), 0),
+    }
+}
+
+fn handle_c_before_h(w: &[u8], at: usize) -> Visit
+    ensures { λ r. ⌜ r ≡ run treeCBeforeH (upper (now (w .entry))) at plain ⌝ }
+{
     if condition_c0(w, at) {
         Visit::both(Add::One(b'K'), 1)
-    } else if is_caesar(w, at) {
-        Visit::both(Add::One(b'S'), 1)
     } else if windows::ahead(w, at, 0, 2, b"CH") {
         handle_ch(w, at)
+    } else {
+        Visit::both(Add::One(b'K'), 0)
+    }
+}
+
+// C before another byte that some case asks for.
+fn handle_c_before(w: &[u8], at: usize) -> Visit
+    ensures { λ r. ⌜ r ≡ run treeCBefore (upper (now (w .entry))) at plain ⌝ }
+{
+    if is_caesar(w, at) {
+        Visit::both(Add::One(b'S'), 1)
     } else if is_czerny(w, at) {
         Visit::split(Add::One(b'S'), Add::One(b'X'), 1)
     } else {
@@ -26,7 +46,7 @@ pub fn handle_c(w: &[u8], at: usize) -> Visit
     }
 }
 
-// C where no test of handle_c holds.
+// C where no test of handle_c_before holds.
 fn handle_c_next(w: &[u8], at: usize) -> Visit
     ensures { λ r. ⌜ r ≡ run treeCNext (upper (now (w .entry))) at plain ⌝ }
 {
@@ -72,18 +92,28 @@ fn condition_c0(w: &[u8], at: usize) -> bool
 fn is_ach(w: &[u8], at: usize) -> bool
     ensures { λ r. ⌜ r ≡ holds ach (upper (now (w .entry))) at plain ⌝ }
 {
-    !(at < 1)
-        & !((at < 2) | windows::vowel_behind(w, at, 2))
-        & !((0 < at) & !windows::behind(w, at, 1, 3, b"ACH"))
-        & !(at < 2)
-        & (!(windows::char_ahead(w, at, 2, b'I') | windows::char_ahead(w, at, 2, b'E'))
-            | windows::behind(w, at, 2, 6, b"BACHERMACHER"))
+    let ach = windows::behind(w, at, 1, 3, b"ACH");
+    if ach {
+        !(at < 1)
+            & !((at < 2) | windows::vowel_behind(w, at, 2))
+            & !((0 < at) & !ach)
+            & !(at < 2)
+            & (!(windows::char_ahead(w, at, 2, b'I') | windows::char_ahead(w, at, 2, b'E'))
+                | windows::behind(w, at, 2, 6, b"BACHERMACHER"))
+    } else {
+        // at place 0 the first test fails, and behind it the third
+        false
+    }
 }
 
 fn is_caesar(w: &[u8], at: usize) -> bool
     ensures { λ r. ⌜ r ≡ holds caesar (upper (now (w .entry))) at plain ⌝ }
 {
-    (at == 0) & windows::ahead(w, at, 0, 6, b"CAESAR")
+    if at == 0 {
+        windows::ahead(w, at, 0, 6, b"CAESAR")
+    } else {
+        false
+    }
 }
 
 fn is_czerny(w: &[u8], at: usize) -> bool
@@ -134,7 +164,11 @@ fn is_chae(w: &[u8], at: usize) -> bool
 fn is_greek(w: &[u8], at: usize) -> bool
     ensures { λ r. ⌜ r ≡ holds (conditionCH0 or conditionCH1) (upper (now (w .entry))) at plain ⌝ }
 {
-    condition_ch0(w, at) | condition_ch1(w, at)
+    if condition_ch0(w, at) {
+        true
+    } else {
+        condition_ch1(w, at)
+    }
 }
 
 fn condition_ch0(w: &[u8], at: usize) -> bool

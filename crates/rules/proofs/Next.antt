@@ -6,6 +6,7 @@ use Prim.Native.String.{String}
 use mathlib.Core.Bool.{Bool, true, false, false≢true, cond, not, _&&_, _||_, and-false, or-true}
 use mathlib.Core.List.{List, [], _∷_, map}
 use mathlib.Core.Option.{none}
+use mathlib.Core.Logic.{inl, inr}
 use mathlib.Core.Path.{_≡_, refl, sym, ap, _∙_}
 use native.Mathlib.Omega.{arith}
 use borrow.Author.Tests.{leb-true, eqb-true, eqb-false, ne-eqb, eq-eqb, lt-ltb, le-ltb, not-true}
@@ -218,10 +219,21 @@ pub by-next : (may : ℕ → Bool) (t : Tree) (u : List ℕ) (p : ℕ) (m : Mode
 by-next may t u p m e r h i =
     i ∙ pruned-run may u p (ap may (sym r) ∙ h) t m ∙ sym (ways-run t u p m) ∙ ap (λ (ds : List Case). first ds u p m) e
 
--- what the last arm knows of the next byte
+-- what an arm knows of the next byte
+abbrev pub all : (ℕ → Bool) → List ℕ → Bool
+all may [] = true
+all may (k ∷ ks) = may k && all may ks
+
+pub one-of : (may : ℕ → Bool) (ks : List ℕ) (x : ℕ) → all may ks ≡ true → OneOf ks x → may x ≡ true
+one-of may [] x e h = absurd h
+one-of may (k ∷ []) x e h = ap may h ∙ both (may k) true e .0
+one-of may (k ∷ k′ ∷ ks) x e (inl h) = ap may h ∙ both (may k) (all may (k′ ∷ ks)) e .0
+one-of may (k ∷ k′ ∷ ks) x e (inr h) = one-of may (k′ ∷ ks) x (both (may k) (all may (k′ ∷ ks)) e .1) h
+
+-- and the last arm
 pub none-of : (ks : List ℕ) (x : ℕ) → (OneOf ks x → ⊥) → not (among ks x) ≡ true
 none-of ks x h = simp (among-no ks x h)
 
--- the same behind two arms
-pub none-of-both : (ks ls : List ℕ) (x : ℕ) → (OneOf ks x → ⊥) → (OneOf ls x → ⊥) → (not (among ks x) && not (among ls x)) ≡ true
-none-of-both ks ls x h k = simp (among-no ks x h, among-no ls x k)
+-- and of two such facts, where two arms stand before it
+pub also : (a b : Bool) → a ≡ true → b ≡ true → (a && b) ≡ true
+also a b h k = simp (h, k)

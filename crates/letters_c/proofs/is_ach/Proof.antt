@@ -1,6 +1,8 @@
 -- `letters_c::is_ach` meets its contract: its expression is the condition. Assumes nothing.
-use mathlib.Core.Path.{refl}
-use Rattle.rules.specs.Cond.{holds}
+use mathlib.Core.Path.{refl, sym, _∙_}
+use Rattle.windows.specs.Text.{upper}
+use Rattle.rules.specs.Cond.{holds, plain}
+use Rattle.letters_c.proofs.Ach.{ach-no}
 use Rattle.letters_c.proofs.is_ach.Statement.{statement}
 use Rattle.letters_c.proofs.is_ach.Tie as tie
 
@@ -9,9 +11,12 @@ unfolding holds
 is-ach-spec =
     tie.close
     (tie.spec
-    (λ c κs. tt)
     (λ c. refl) (λ c κs. tt)
     (λ c κs. tt)
     (λ c κs. tt)
+    (λ c κs. tt)
     (λ c. refl) (λ c κs. tt)
-    (λ c. cc))
+    (λ c. cc)
+    (λ c.
+    let args = c .before .before .before .before .args in
+    ach-no (upper (args .w .now)) (args .at) plain (sym (c .before .behind .ensures) ∙ c .if1 .left)))

@@ -1,4 +1,5 @@
 -- `letters_c::is_greek` meets its contract: its expression is the condition. Assumes nothing.
+use mathlib.Core.Path.{refl}
 use Rattle.rules.specs.Cond.{holds}
 use Rattle.letters_c.proofs.is_greek.Statement.{statement}
 use Rattle.letters_c.proofs.is_greek.Tie as tie
@@ -10,4 +11,5 @@ is-greek-spec =
     (tie.spec
     (λ c κs. tt)
     (λ c κs. tt)
-    (λ c. cc))
+    (λ c. rw (← c .before .condition-ch0 .ensures) (rw (c .if1 .taken) refl))
+    (λ c. rw (← c .before .before .condition-ch0 .ensures) (rw (c .before .if1 .left) (cc))))

@@ -15,4 +15,13 @@ is-ger-spec =
     (λ c. refl) (λ c κs. tt)
     (λ c. refl) (λ c κs. tt)
     (λ c. refl) (λ c κs. tt)
-    (λ c. cc))
+    (λ c. rw (← c .before .is-ger-first .ensures) (rw (c .if1 .taken) refl))
+    (λ c.
+    let d = c .before .before .before .before .before .before in
+    let e = d .before .before .before .before in
+    rw (← e .before .is-ger-first .ensures) (rw (← d .before .char-ahead .ensures) (rw (← d .before .before .ahead .ensures)
+    (rw (d .if2 .taken) (rw (e .if1 .left) (cc))))))
+    (λ c.
+    let e = c .before .before .before .before in
+    rw (← e .before .is-ger-first .ensures) (rw (← c .before .char-ahead .ensures) (rw (← c .before .before .ahead .ensures)
+    (rw (c .if2 .left) (rw (e .if1 .left) refl))))))

@@ -11,4 +11,7 @@ is-artois-spec =
     (tie.spec
     (λ c κs. tt)
     (λ c. refl) (λ c κs. tt)
-    (λ c. cc))
+    (λ c.
+    let d = c .before .before in
+    rw (← d .before .from-end .ensures) (rw (d .if1 .taken) (cc)))
+    (λ c. rw (← c .before .from-end .ensures) (rw (c .if1 .left) refl)))

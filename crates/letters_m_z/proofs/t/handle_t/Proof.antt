@@ -6,7 +6,7 @@ use mathlib.Core.Bool.{not, _&&_}
 use Rattle.windows.specs.Text.{bytes}
 use Rattle.windows.specs.Window.{among}
 use Rattle.rules.specs.Tree.{run}
-use Rattle.rules.proofs.Next.{by-next, none-of-both}
+use Rattle.rules.proofs.Next.{by-next, none-of, also}
 use Rattle.letters_m_z.specs.Trees.{treeT}
 use Rattle.letters_m_z.proofs.Ways.{ways-T}
 use Rattle.letters_m_z.proofs.t.handle_t.Statement.{statement}
@@ -25,4 +25,4 @@ handle-t-spec =
     (λ c. c .handle-t-before2 .ensures)
     (λ c.
     by-next (λ (x : ℕ). not (among (bytes "CHT") x) && not (among (bytes "DI") x)) treeT _ _ _ ways-T (c .before .before .next .ensures)
-    (none-of-both (bytes "CHT") (bytes "DI") _ (c .before .match .rest .0 .1) (c .before .match .rest .1)) (c .both .ensures)))
+    (also _ _ (none-of (bytes "CHT") _ (c .before .match .rest .0 .1)) (none-of (bytes "DI") _ (c .before .match .rest .1))) (c .both .ensures)))

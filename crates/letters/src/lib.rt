@@ -19,30 +19,30 @@ pub fn visit_at(w: &[u8], at: usize, slavo: bool) -> Visit
     if w.len() <= at {
         return Visit::both(Add::Nothing, 0);
     }
-    let b = windows::capital(w[at]);
-    match b {
-        b'A' | b'E' | b'I' | b'O' | b'U' | b'Y' => handle_vowel(w, at),
-        b'B' => handle_plain(w, at, b'B', b'P'),
-        b'C' => letters_c::handle_c(w, at),
-        b'D' => letters_d_l::d::handle_d(w, at),
-        b'F' => handle_plain(w, at, b'F', b'F'),
-        b'G' => letters_g::handle_g(w, at, slavo),
-        b'H' => letters_d_l::h::handle_h(w, at),
-        b'J' => letters_d_l::j::handle_j(w, at, slavo),
-        b'K' => handle_plain(w, at, b'K', b'K'),
-        b'L' => letters_d_l::l::handle_l(w, at),
-        b'M' => letters_m_z::m::handle_m(w, at),
-        b'N' => handle_plain(w, at, b'N', b'N'),
-        b'P' => letters_m_z::p::handle_p(w, at),
-        b'Q' => handle_plain(w, at, b'Q', b'K'),
-        b'R' => letters_m_z::r::handle_r(w, at, slavo),
-        b'S' => letters_s::handle_s(w, at, slavo),
-        b'T' => letters_m_z::t::handle_t(w, at),
-        b'V' => handle_plain(w, at, b'V', b'F'),
-        b'W' => letters_m_z::w::handle_w(w, at),
-        b'X' => letters_m_z::x::handle_x(w, at),
-        b'Z' => letters_m_z::z::handle_z(w, at, slavo),
-        0..=64 | 91..=255 => Visit::both(Add::Nothing, 0),
+    match w[at] {
+        b'A' | b'a' | b'E' | b'e' | b'I' | b'i' | b'O' | b'o' | b'U' | b'u' | b'Y' | b'y' =>
+            handle_vowel(w, at),
+        b'B' | b'b' => handle_plain(w, at, b'B', b'P'),
+        b'C' | b'c' => letters_c::handle_c(w, at),
+        b'D' | b'd' => letters_d_l::d::handle_d(w, at),
+        b'F' | b'f' => handle_plain(w, at, b'F', b'F'),
+        b'G' | b'g' => letters_g::handle_g(w, at, slavo),
+        b'H' | b'h' => letters_d_l::h::handle_h(w, at),
+        b'J' | b'j' => letters_d_l::j::handle_j(w, at, slavo),
+        b'K' | b'k' => handle_plain(w, at, b'K', b'K'),
+        b'L' | b'l' => letters_d_l::l::handle_l(w, at),
+        b'M' | b'm' => letters_m_z::m::handle_m(w, at),
+        b'N' | b'n' => handle_plain(w, at, b'N', b'N'),
+        b'P' | b'p' => letters_m_z::p::handle_p(w, at),
+        b'Q' | b'q' => handle_plain(w, at, b'Q', b'K'),
+        b'R' | b'r' => letters_m_z::r::handle_r(w, at, slavo),
+        b'S' | b's' => letters_s::handle_s(w, at, slavo),
+        b'T' | b't' => letters_m_z::t::handle_t(w, at),
+        b'V' | b'v' => handle_plain(w, at, b'V', b'F'),
+        b'W' | b'w' => letters_m_z::w::handle_w(w, at),
+        b'X' | b'x' => letters_m_z::x::handle_x(w, at),
+        b'Z' | b'z' => letters_m_z::z::handle_z(w, at, slavo),
+        0..=64 | 91..=96 | 123..=255 => Visit::both(Add::Nothing, 0),
     }
 }
 

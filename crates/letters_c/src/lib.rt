@@ -13,11 +13,12 @@ ghost use Rattle.letters_c.specs.Trees.{treeCH, treeCC, treeCNext, treeC
 pub fn handle_c(w: &[u8], at: usize) -> Visit
     ensures { λ r. ⌜ r ≡ first casesC (upper (now (w .entry))) at plain ⌝ }
 {
-    match windows::next(w, at) {
-        b'H' => handle_c_before_h(w, at),
-        b' ' | b'A' | b'C' | b'E' | b'G' | b'I' | b'K' | b'Q' | b'Y' => handle_c_before(w, at),
-        b'Z' => handle_c_before(w, at),
-        _ => Visit::both(Add::One(b'K'), 0),
+    if windows::ahead(w, at, 1, 1, b"H") {
+        handle_c_before_h(w, at)
+    } else if windows::ahead(w, at, 1, 1, b" ACEGIKQYZ") {
+        handle_c_before(w, at)
+    } else {
+        Visit::both(Add::One(b'K'), 0)
     }
 }
 

@@ -10,9 +10,10 @@ ghost use Rattle.rules.specs.CasesDL.{casesD};
 pub fn handle_d(w: &[u8], at: usize) -> Visit
     ensures { λ r. ⌜ r ≡ first casesD (upper (now (w .entry))) at plain ⌝ }
 {
-    match windows::next(w, at) {
-        b'D' | b'G' | b'T' => handle_d_before(w, at),
-        _ => Visit::both(Add::One(b'T'), 0),
+    if windows::ahead(w, at, 1, 1, b"DGT") {
+        handle_d_before(w, at)
+    } else {
+        Visit::both(Add::One(b'T'), 0)
     }
 }
 

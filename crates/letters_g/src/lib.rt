@@ -13,10 +13,10 @@ ghost use Rattle.letters_g.specs.Trees.{treeGH, treeGN, treeGGI, treeGLa
 pub fn handle_g(w: &[u8], at: usize, slavo: bool) -> Visit
     ensures { λ r. ⌜ r ≡ first casesG (upper (now (w .entry))) at (marked slavo) ⌝ }
 {
-    match windows::next(w, at) {
-        b'E' | b'G' | b'I' | b'L' | b'N' | b'Y' => handle_g_before(w, at, slavo),
-        b'H' => handle_g_before(w, at, slavo),
-        _ => Visit::both(Add::One(b'K'), 0),
+    if windows::ahead(w, at, 1, 1, b"EGHILNY") {
+        handle_g_before(w, at, slavo)
+    } else {
+        Visit::both(Add::One(b'K'), 0)
     }
 }
 

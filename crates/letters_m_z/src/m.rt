@@ -10,9 +10,10 @@ ghost use Rattle.rules.specs.CasesMZ.{casesM, conditionM0};
 pub fn handle_m(w: &[u8], at: usize) -> Visit
     ensures { λ r. ⌜ r ≡ first casesM (upper (now (w .entry))) at plain ⌝ }
 {
-    match windows::next(w, at) {
-        b'B' | b'M' => handle_m_before(w, at),
-        _ => Visit::both(Add::One(b'M'), 0),
+    if windows::ahead(w, at, 1, 1, b"BM") {
+        handle_m_before(w, at)
+    } else {
+        Visit::both(Add::One(b'M'), 0)
     }
 }
 

@@ -10,10 +10,10 @@ ghost use Rattle.rules.specs.CasesMZ.{casesT, TION, TH, thomas};
 pub fn handle_t(w: &[u8], at: usize) -> Visit
     ensures { λ r. ⌜ r ≡ first casesT (upper (now (w .entry))) at plain ⌝ }
 {
-    match windows::next(w, at) {
-        b'C' | b'H' | b'T' => handle_t_before(w, at),
-        b'D' | b'I' => handle_t_before(w, at),
-        _ => Visit::both(Add::One(b'T'), 0),
+    if windows::ahead(w, at, 1, 1, b"CDHIT") {
+        handle_t_before(w, at)
+    } else {
+        Visit::both(Add::One(b'T'), 0)
     }
 }
 

@@ -13,10 +13,10 @@ ghost use Rattle.letters_s.specs.Trees.{treeSNext, treeSLast, treeSH, tr
 pub fn handle_s(w: &[u8], at: usize, slavo: bool) -> Visit
     ensures { λ r. ⌜ r ≡ first casesS (upper (now (w .entry))) at (marked slavo) ⌝ }
 {
-    match windows::next(w, at) {
-        0 | b'C' | b'H' | b'L' | b'N' | b'S' | b'U' | b'W' | b'Z' => handle_s_before(w, at, slavo),
-        b'I' | b'M' => handle_s_before(w, at, slavo),
-        _ => Visit::both(Add::One(b'S'), 0),
+    if windows::from_end(w, at, 0) | windows::ahead(w, at, 1, 1, b"CHILMNSUWZ") {
+        handle_s_before(w, at, slavo)
+    } else {
+        Visit::both(Add::One(b'S'), 0)
     }
 }
 

@@ -7,7 +7,7 @@ use mathlib.Core.Logic.{inl, inr}
 use native.Mathlib.Omega.{arith}
 use borrow.Author.Tests.{leb-true, le-leb, eqb-true, eqb-false, eq-eqb, ne-eqb, lt-ltb, le-ltb}
 use lib.Dec.{leb, eqb}
-use lib.ListN.{length, getD, take, drop, length-map, length-take, length-drop, List·getD-map, List·getD-eq-default}
+use lib.ListN.{length, getD, take, drop, length-map, length-take, length-drop, List·getD-map}
 use lib.Seq.{ext-getD, getD-take, getD-drop}
 use Rattle.windows.specs.Text.{up, upper, same}
 use Rattle.windows.specs.Window.{isAt, sees, byteAt, cut, texts, among, vowel, vowelAt, endsAfter, isLong}
@@ -52,11 +52,6 @@ length-upper w = length-map w up
 pub getD-upper : (w : List ℕ) (i : ℕ) → getD (upper w) i 0 ≡ up (getD w i 0)
 unfolding upper up
 getD-upper w i = List·getD-map up w i 0
-
--- no byte stands past the end, which reads as 0
-pub upper-past : (w : List ℕ) (i : ℕ) → length w ≤ i → 0 ≡ getD (upper w) i 0
-unfolding up
-upper-past w i h = sym (getD-upper w i ∙ ap up (List·getD-eq-default w 0 h))
 
 pub isAt-true : (u : List ℕ) (p n : ℕ) (t : List ℕ) → isAt u p n t ≡ true → (p + n ≤ length u) × (take n (drop p u) ≡ t)
 unfolding isAt

@@ -19,8 +19,6 @@ use Rattle.windows.proofs.rear.Kinds as rear-kinds
 use Rattle.windows.proofs.rear.Reads as rear
 use Rattle.windows.proofs.char_ahead.Kinds as char-ahead-kinds
 use Rattle.windows.proofs.char_ahead.Reads as char-ahead
-use Rattle.windows.proofs.next.Kinds as next-kinds
-use Rattle.windows.proofs.next.Reads as next
 use Rattle.windows.proofs.char_behind.Kinds as char-behind-kinds
 use Rattle.windows.proofs.char_behind.Reads as char-behind
 use Rattle.windows.proofs.vowel_ahead.Kinds as vowel-ahead-kinds
@@ -58,9 +56,6 @@ one-rear κs a x y s t p q = p ∙ sym q
 
 pub one-char-ahead : OneResult char-ahead-kinds.ps char-ahead-kinds.r char-ahead.Post
 one-char-ahead κs a x y s t p q = p ∙ sym q
-
-pub one-next : OneResult next-kinds.ps next-kinds.r next.Post
-one-next κs a x y s t p q = p ∙ sym q
 
 pub one-char-behind : OneResult char-behind-kinds.ps char-behind-kinds.r char-behind.Post
 one-char-behind κs a x y s t p q = p ∙ sym q

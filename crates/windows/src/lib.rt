@@ -2,7 +2,6 @@
 // and nothing is copied. Every test is total: a place below 0 or a window past the end is no match.
 ghost use mathlib.Core.Path.{_≡_};
 ghost use Prim.Native.Nat.{ℕ, _+_};
-ghost use lib.ListN.{getD};
 ghost use Rattle.windows.specs.Text.{up, upper};
 ghost use Rattle.windows.specs.Window.{isAt, sees, byteAt, vowel, vowelAt, stepBack, fromRear, endsAfter, isLong, texts};
 
@@ -111,19 +110,6 @@ pub fn char_ahead(w: &[u8], at: usize, k: usize, b: u8) -> bool
         return false;
     }
     capital(w[at + k]) == b
-}
-
-// The byte behind `at`; where none stands, 0.
-pub fn next(w: &[u8], at: usize) -> u8
-    ensures { λ r. ⌜ r ≡ getD (upper (now (w .entry))) (at + 1) 0 ⌝ }
-{
-    if w.len() <= at {
-        return 0;
-    }
-    if w.len() - at <= 1 {
-        return 0;
-    }
-    capital(w[at + 1])
 }
 
 // The byte `k` back from `at` is `b`.

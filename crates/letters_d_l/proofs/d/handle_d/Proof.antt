@@ -1,12 +1,12 @@
 -- `letters_d_l::d::handle_d` meets its contract: before another byte than those that some case asks for, the last case answers.
 -- Assumes nothing.
 use Prim.Native.Nat.{ℕ}
-use mathlib.Core.Path.{refl}
-use mathlib.Core.Bool.{not}
+use mathlib.Core.Path.{refl, sym, _∙_}
+use mathlib.Core.Bool.{false, false≢true, not}
 use Rattle.windows.specs.Text.{bytes}
 use Rattle.windows.specs.Window.{among}
 use Rattle.rules.specs.Tree.{run}
-use Rattle.rules.proofs.Next.{by-next, none-of}
+use Rattle.rules.proofs.Next.{by-next, is-none}
 use Rattle.letters_d_l.specs.Trees.{treeD}
 use Rattle.letters_d_l.proofs.Ways.{ways-D}
 use Rattle.letters_d_l.proofs.d.handle_d.Statement.{statement}
@@ -17,10 +17,10 @@ unfolding run treeD
 handle-d-spec =
     tie.close
     (tie.spec
-    (λ c κs. tt)
+    (λ c. refl) (λ c κs. tt)
     (λ c κs. tt)
     (λ c κs. tt)
     (λ c. c .handle-d-before .ensures)
     (λ c.
-    by-next (λ (x : ℕ). not (among (bytes "DGT") x)) treeD _ _ _ ways-D (c .before .before .next .ensures)
-    (none-of (bytes "DGT") _ (c .before .match .rest .1)) (c .both .ensures)))
+    by-next (λ (x : ℕ). not (among (bytes "DGT") x)) false treeD _ _ _ ways-D
+    (is-none _ _ (bytes "DGT") refl (sym (c .before .before .ahead .ensures) ∙ c .before .if1 .left)) (λ e. absurd (false≢true e)) (c .both .ensures)))

@@ -215,7 +215,7 @@ Letters ks = among ks 0 ≡ false
 abbrev singles : List ℕ → List (List ℕ)
 singles ks = map (λ (k : ℕ). k ∷ []) ks
 
-neither : (a b : Bool) → (a || b) ≡ false → (a ≡ false) × (b ≡ false)
+pub neither : (a b : Bool) → (a || b) ≡ false → (a ≡ false) × (b ≡ false)
 neither true b e = absurd (false≢true (sym e))
 neither false b e = (refl, e)
 
@@ -268,3 +268,7 @@ pub by-next : (may : ℕ → Bool) (on? : Bool) (t : Tree) (u : List ℕ) (p : �
     → v ≡ first cs u p m
 by-next may on? t u p m e h on i =
     i ∙ pruned-run may on? u p h on t m ∙ sym (ways-run t u p m) ∙ ap (λ (ds : List Case). first ds u p m) e
+
+-- of two things known of it
+pub also : (a b : Bool) → a ≡ true → b ≡ true → (a && b) ≡ true
+also a b h k = simp (h, k)

@@ -1,23 +1,48 @@
 -- `letters_c::handle_c` meets its contract: each branch answers as what the next byte leaves of the tree. Assumes nothing.
-use mathlib.Core.Path.{ap}
-use mathlib.Core.Bool.{not}
+use Prim.Native.Nat.{ℕ}
+use mathlib.Core.Path.{_≡_, refl, sym, _∙_}
+use mathlib.Core.Bool.{Bool, true, false, false≢true, not, _&&_}
+use mathlib.Core.List.{List}
+use lib.ListN.{getD}
 use Rattle.windows.specs.Text.{bytes}
+use Rattle.windows.specs.Window.{among}
 use Rattle.rules.specs.Tree.{run}
-use Rattle.rules.proofs.Next.{by-next, one, none}
+use Rattle.rules.proofs.Next.{by-next, is-one, is-none, also}
 use Rattle.letters_c.specs.Trees.{treeCH, treeCC, treeCLast, treeCNext, treeC, treeCBeforeH, treeCBefore}
 use Rattle.letters_c.proofs.Ways.{ways-C}
 use Rattle.letters_c.proofs.handle_c.Statement.{statement}
 use Rattle.letters_c.proofs.handle_c.Tie as tie
+
+-- than H, and than any that some case asks for
+abbrev other : ℕ → Bool
+other x = not (among (bytes "H") x)
+
+abbrev none : ℕ → Bool
+none x = other x && not (among (bytes " ACEGIKQYZ") x)
+
+no-end : {A : Type 0} → false ≡ true → A
+no-end e = absurd (false≢true e)
 
 pub handle-c-spec : {M : Type 1} → statement M
 unfolding run treeC treeCH treeCC treeCNext treeCLast treeCBeforeH treeCBefore
 handle-c-spec =
     tie.close
     (tie.spec
+    (λ c. refl) (λ c κs. tt)
+    (λ c κs. tt)
+    (λ c. refl) (λ c κs. tt)
     (λ c κs. tt)
     (λ c κs. tt)
-    (λ c κs. tt)
-    (λ c κs. tt)
-    (λ c. ?)
-    (λ c. ?)
-    (λ c. ?))
+    (λ c.
+    by-next (among (bytes "H")) false treeC _ _ _ ways-C
+    (is-one _ _ (bytes "H") (sym (c .before .before .ahead .ensures) ∙ c .before .if1 .taken)) no-end (c .handle-c-before-h .ensures))
+    (λ c.
+    let d = c .before .before .before .before in
+    by-next other false treeC _ _ _ ways-C
+    (is-none _ _ (bytes "H") refl (sym (d .before .ahead .ensures) ∙ d .if1 .left)) no-end (c .handle-c-before .ensures))
+    (λ c.
+    let d = c .before .before .before .before in
+    by-next none false treeC _ _ _ ways-C
+    (also _ _ (is-none _ _ (bytes "H") refl (sym (d .before .ahead .ensures) ∙ d .if1 .left))
+    (is-none _ _ (bytes " ACEGIKQYZ") refl (sym (c .before .before .ahead2 .ensures) ∙ c .before .if2 .left)))
+    no-end (c .both .ensures)))

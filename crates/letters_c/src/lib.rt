@@ -87,7 +87,11 @@ fn handle_c_last(w: &[u8], at: usize) -> Visit
 fn condition_c0(w: &[u8], at: usize) -> bool
     ensures { λ r. ⌜ r ≡ holds conditionC0 (upper (now (w .entry))) at plain ⌝ }
 {
-    windows::ahead(w, at, 0, 4, b"CHIA") | is_ach(w, at)
+    if windows::ahead(w, at, 0, 4, b"CHIA") {
+        true
+    } else {
+        is_ach(w, at)
+    }
 }
 
 fn is_ach(w: &[u8], at: usize) -> bool
@@ -120,20 +124,32 @@ fn is_caesar(w: &[u8], at: usize) -> bool
 fn is_czerny(w: &[u8], at: usize) -> bool
     ensures { λ r. ⌜ r ≡ holds czerny (upper (now (w .entry))) at plain ⌝ }
 {
-    windows::ahead(w, at, 0, 2, b"CZ") & ((at < 2) | !windows::behind(w, at, 2, 4, b"WICZ"))
+    if windows::ahead(w, at, 0, 2, b"CZ") {
+        (at < 2) | !windows::behind(w, at, 2, 4, b"WICZ")
+    } else {
+        false
+    }
 }
 
 // Double "cc" but not "McClelland".
 fn is_double(w: &[u8], at: usize) -> bool
     ensures { λ r. ⌜ r ≡ holds doubleC (upper (now (w .entry))) at plain ⌝ }
 {
-    windows::ahead(w, at, 0, 2, b"CC") & !((at == 1) & windows::char_ahead(w, 0, 0, b'M'))
+    if windows::ahead(w, at, 0, 2, b"CC") {
+        !((at == 1) & windows::char_ahead(w, 0, 0, b'M'))
+    } else {
+        false
+    }
 }
 
 fn is_hard(w: &[u8], at: usize) -> bool
     ensures { λ r. ⌜ r ≡ holds hardC (upper (now (w .entry))) at plain ⌝ }
 {
-    windows::ahead(w, at, 1, 1, b"CKQ") & !windows::ahead(w, at, 1, 2, b"CECI")
+    if windows::ahead(w, at, 1, 1, b"CKQ") {
+        !windows::ahead(w, at, 1, 2, b"CECI")
+    } else {
+        false
+    }
 }
 
 fn handle_ch(w: &[u8], at: usize) -> Visit
@@ -159,7 +175,11 @@ fn handle_ch(w: &[u8], at: usize) -> Visit
 fn is_chae(w: &[u8], at: usize) -> bool
     ensures { λ r. ⌜ r ≡ holds chae (upper (now (w .entry))) at plain ⌝ }
 {
-    (0 < at) & windows::ahead(w, at, 0, 4, b"CHAE")
+    if 0 < at {
+        windows::ahead(w, at, 0, 4, b"CHAE")
+    } else {
+        false
+    }
 }
 
 fn is_greek(w: &[u8], at: usize) -> bool

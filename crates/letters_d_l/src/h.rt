@@ -21,5 +21,9 @@ pub fn handle_h(w: &[u8], at: usize) -> Visit
 fn is_before_vowel(w: &[u8], at: usize) -> bool
     ensures { λ r. ⌜ r ≡ holds beforeVowel (upper (now (w .entry))) at plain ⌝ }
 {
-    ((at == 0) | windows::vowel_behind(w, at, 1)) & windows::vowel_ahead(w, at, 1)
+    if (at == 0) | windows::vowel_behind(w, at, 1) {
+        windows::vowel_ahead(w, at, 1)
+    } else {
+        false
+    }
 }

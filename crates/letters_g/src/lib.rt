@@ -122,7 +122,11 @@ fn is_ger_first(w: &[u8], at: usize) -> bool
 fn is_biaggi(w: &[u8], at: usize) -> bool
     ensures { λ r. ⌜ r ≡ holds biaggi (upper (now (w .entry))) at plain ⌝ }
 {
-    windows::ahead(w, at, 1, 1, b"EIY") | (0 < at) & windows::behind(w, at, 1, 4, b"AGGIOGGI")
+    if windows::ahead(w, at, 1, 1, b"EIY") {
+        true
+    } else {
+        (0 < at) & windows::behind(w, at, 1, 4, b"AGGIOGGI")
+    }
 }
 
 fn is_germanic(w: &[u8], at: usize) -> bool

@@ -29,8 +29,11 @@ fn handle_m_before(w: &[u8], at: usize) -> Visit
 fn condition_m0(w: &[u8], at: usize) -> bool
     ensures { λ r. ⌜ r ≡ holds conditionM0 (upper (now (w .entry))) at plain ⌝ }
 {
-    windows::char_ahead(w, at, 1, b'M')
-        | (0 < at)
-            & windows::behind(w, at, 1, 3, b"UMB")
-            & (windows::from_end(w, at, 1) | windows::ahead(w, at, 2, 2, b"ER"))
+    if windows::char_ahead(w, at, 1, b'M') {
+        true
+    } else if (0 < at) & windows::behind(w, at, 1, 3, b"UMB") {
+        windows::from_end(w, at, 1) | windows::ahead(w, at, 2, 2, b"ER")
+    } else {
+        false
+    }
 }

@@ -38,13 +38,21 @@ fn handle_t_before(w: &[u8], at: usize) -> Visit
 fn is_tion(w: &[u8], at: usize) -> bool
     ensures { λ r. ⌜ r ≡ holds TION (upper (now (w .entry))) at plain ⌝ }
 {
-    windows::ahead(w, at, 0, 4, b"TION") | windows::ahead(w, at, 0, 3, b"TIATCH")
+    if windows::ahead(w, at, 0, 4, b"TION") {
+        true
+    } else {
+        windows::ahead(w, at, 0, 3, b"TIATCH")
+    }
 }
 
 fn is_th(w: &[u8], at: usize) -> bool
     ensures { λ r. ⌜ r ≡ holds TH (upper (now (w .entry))) at plain ⌝ }
 {
-    windows::ahead(w, at, 0, 2, b"TH") | windows::ahead(w, at, 0, 3, b"TTH")
+    if windows::ahead(w, at, 0, 2, b"TH") {
+        true
+    } else {
+        windows::ahead(w, at, 0, 3, b"TTH")
+    }
 }
 
 // "thomas", "thames", or Germanic.

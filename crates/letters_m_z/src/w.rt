@@ -42,7 +42,11 @@ fn handle_first_w(w: &[u8], at: usize) -> Visit
 fn is_first_w(w: &[u8], at: usize) -> bool
     ensures { λ r. ⌜ r ≡ holds firstW (upper (now (w .entry))) at plain ⌝ }
 {
-    (at == 0) & (windows::vowel_ahead(w, at, 1) | windows::ahead(w, at, 0, 2, b"WH"))
+    if at == 0 {
+        windows::vowel_ahead(w, at, 1) | windows::ahead(w, at, 0, 2, b"WH")
+    } else {
+        false
+    }
 }
 
 // Arnow should match Arnoff.

@@ -34,6 +34,9 @@ fn handle_z_other(w: &[u8], at: usize, slavo: bool) -> Visit
 fn is_zo_zi_za(w: &[u8], at: usize, slavo: bool) -> bool
     ensures { λ r. ⌜ r ≡ holds zoZiZa (upper (now (w .entry))) at (marked slavo) ⌝ }
 {
-    windows::ahead(w, at, 1, 2, b"ZOZIZA")
-        | slavo & ((0 < at) & !windows::char_behind(w, at, 1, b'T'))
+    if windows::ahead(w, at, 1, 2, b"ZOZIZA") {
+        true
+    } else {
+        slavo & ((0 < at) & !windows::char_behind(w, at, 1, b'T'))
+    }
 }

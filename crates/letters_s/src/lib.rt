@@ -120,7 +120,11 @@ fn handle_sch(w: &[u8], at: usize) -> Visit
 fn is_island(w: &[u8], at: usize) -> bool
     ensures { λ r. ⌜ r ≡ holds island (upper (now (w .entry))) at plain ⌝ }
 {
-    (0 < at) & windows::behind(w, at, 1, 3, b"ISLYSL")
+    if 0 < at {
+        windows::behind(w, at, 1, 3, b"ISLYSL")
+    } else {
+        false
+    }
 }
 
 fn is_sugar(w: &[u8], at: usize) -> bool
@@ -137,7 +141,11 @@ fn is_sugar(w: &[u8], at: usize) -> bool
 fn is_sio(w: &[u8], at: usize) -> bool
     ensures { λ r. ⌜ r ≡ holds SIO (upper (now (w .entry))) at plain ⌝ }
 {
-    windows::ahead(w, at, 0, 3, b"SIOSIA") | windows::ahead(w, at, 0, 4, b"SIAN")
+    if windows::ahead(w, at, 0, 3, b"SIOSIA") {
+        true
+    } else {
+        windows::ahead(w, at, 0, 4, b"SIAN")
+    }
 }
 
 // German and its anglicised forms ("smith", "schmidt"; "snider", "schneider"), and -sz- in Slavic languages.

@@ -1,5 +1,6 @@
 -- `letters_c::is_chae` meets its contract: its expression is the condition. Assumes nothing.
 use mathlib.Core.Path.{refl}
+use borrow.Author.Tests.{lt-ltb, le-ltb}
 use Rattle.rules.specs.Cond.{holds}
 use Rattle.letters_c.proofs.is_chae.Statement.{statement}
 use Rattle.letters_c.proofs.is_chae.Tie as tie
@@ -10,4 +11,5 @@ is-chae-spec =
     tie.close
     (tie.spec
     (λ c. refl) (λ c κs. tt)
-    (λ c. cc))
+    (λ c. rw (lt-ltb 0 _ (c .before .before .if1 .taken)) (cc))
+    (λ c. rw (le-ltb 0 _ (c .if1 .left)) refl))

@@ -1,5 +1,6 @@
 -- `letters_s::is_island` meets its contract: its expression is the condition. Assumes nothing.
-use mathlib.Core.Path.{refl}
+use mathlib.Core.Path.{refl, _∙_}
+use borrow.Author.Tests.{lt-ltb, le-ltb}
 use Rattle.rules.specs.Cond.{holds}
 use Rattle.letters_s.proofs.is_island.Statement.{statement}
 use Rattle.letters_s.proofs.is_island.Tie as tie
@@ -10,4 +11,5 @@ is-island-spec =
     tie.close
     (tie.spec
     (λ c. refl) (λ c κs. tt)
-    (λ c. cc))
+    (λ c. c .behind .ensures ∙ rw (lt-ltb 0 _ (c .before .before .if1 .taken)) refl)
+    (λ c. rw (le-ltb 0 _ (c .if1 .left)) refl))

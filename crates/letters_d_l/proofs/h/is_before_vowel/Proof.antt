@@ -1,4 +1,5 @@
 -- `letters_d_l::h::is_before_vowel` meets its contract: its expression is the condition. Assumes nothing.
+use mathlib.Core.Path.{refl}
 use Rattle.rules.specs.Cond.{holds}
 use Rattle.letters_d_l.proofs.h.is_before_vowel.Statement.{statement}
 use Rattle.letters_d_l.proofs.h.is_before_vowel.Tie as tie
@@ -10,4 +11,5 @@ is-before-vowel-spec =
     (tie.spec
     (λ c κs. tt)
     (λ c κs. tt)
-    (λ c. cc))
+    (λ c. rw (← c .before .before .vowel-behind .ensures) (rw (c .before .if1 .taken) (cc)))
+    (λ c. rw (← c .before .vowel-behind .ensures) (rw (c .if1 .left) refl)))

@@ -13,4 +13,11 @@ condition-m0-spec =
     (λ c. refl) (λ c κs. tt)
     (λ c κs. tt)
     (λ c. refl) (λ c κs. tt)
-    (λ c. cc))
+    (λ c. rw (← c .before .char-ahead .ensures) (rw (c .if1 .taken) refl))
+    (λ c.
+    let d = c .before .before .before in
+    let e = d .before .before .before in
+    rw (← e .before .char-ahead .ensures) (rw (← d .before .behind .ensures) (rw (e .if1 .left) (rw (d .if2 .taken) (cc)))))
+    (λ c.
+    let e = c .before .before .before in
+    rw (← e .before .char-ahead .ensures) (rw (← c .before .behind .ensures) (rw (e .if1 .left) (rw (c .if2 .left) refl)))))

@@ -11,4 +11,5 @@ is-tion-spec =
     (tie.spec
     (λ c. refl) (λ c κs. tt)
     (λ c. refl) (λ c κs. tt)
-    (λ c. cc))
+    (λ c. rw (← c .before .ahead .ensures) (rw (c .if1 .taken) refl))
+    (λ c. rw (← c .before .before .before .ahead .ensures) (rw (c .before .before .if1 .left) (cc))))

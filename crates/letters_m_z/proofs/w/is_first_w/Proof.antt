@@ -1,5 +1,6 @@
 -- `letters_m_z::w::is_first_w` meets its contract: its expression is the condition. Assumes nothing.
 use mathlib.Core.Path.{refl}
+use borrow.Author.Tests.{eq-eqb, ne-eqb}
 use Rattle.rules.specs.Cond.{holds}
 use Rattle.letters_m_z.proofs.w.is_first_w.Statement.{statement}
 use Rattle.letters_m_z.proofs.w.is_first_w.Tie as tie
@@ -11,4 +12,5 @@ is-first-w-spec =
     (tie.spec
     (λ c κs. tt)
     (λ c. refl) (λ c κs. tt)
-    (λ c. cc))
+    (λ c. rw (eq-eqb _ 0 (c .before .before .before .if1 .taken)) (cc))
+    (λ c. rw (ne-eqb _ 0 (c .if1 .left)) refl))

@@ -55,7 +55,7 @@ pub data Says (u : List ℕ) (p : ℕ) (m : Mode) : Tree → Visit → Type 0 wh
 pub deep-plain : {u : List ℕ} {p : ℕ} {m : Mode} {t : Tree} {v : Visit} → v ≡ run t u p plain → freeTree t ≡ true → Says u p m t v
 deep-plain {u = u} {p = p} {m = m} {t = t} i f = deep (i ∙ free-run t f u p plain m)
 
-over-one : (q : Bool) (a b : String) → adds a b (cond q 1 0) ≡ cond q (adds a b 1) (adds a b 0)
+pub over-one : (q : Bool) (a b : String) → adds a b (cond q 1 0) ≡ cond q (adds a b 1) (adds a b 0)
 over-one true a b = refl
 over-one false a b = refl
 

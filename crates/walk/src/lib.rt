@@ -4,7 +4,7 @@ pub mod mark;
 
 use rules::Add;
 ghost use mathlib.Core.Path.{_≡_};
-ghost use Prim.Native.Nat.{_+_, _-_, _≤_, _<_, min};
+ghost use Prim.Native.Nat.{_+_, _-_, _≤_};
 ghost use lib.ListN.{length, take};
 ghost use lib.Seq.{sets};
 ghost use mathlib.Core.List.{[], _∷_};
@@ -24,20 +24,6 @@ pub fn start_of(w: &[u8]) -> usize
     ensures { λ r. ⌜ r ≡ startOf (now (w .entry)) ⌝ }
 {
     rules::one_if(windows::front(w, 2, b"GNKNPNWRPS"))
-}
-
-fn lesser(a: usize, b: usize) -> usize
-    ensures { λ r. ⌜ r ≡ min a b ⌝ }
-{
-    if a < b { a } else { b }
-}
-
-// The place behind a visit, and the end where that lies past it.
-fn behind(at: usize, over: usize, end: usize) -> usize
-    requires { ⌜ at < end ⌝ }
-    ensures { λ r. ⌜ r ≡ min (at + 1 + over) end ⌝ }
-{
-    if over < end - at { at + 1 + over } else { end }
 }
 
 // Writes a byte at `len` unless the limit is reached, and answers the new length (the Rust's append_char).
@@ -82,7 +68,7 @@ pub fn walk(w: &[u8], limit: usize, p: &mut [u8], a: &mut [u8]) -> Tally
     let mut na = 0;
     let mut visits = 0;
     while at < w.len() {
-        if limit <= lesser(np, na) {
+        if (limit <= np) & (limit <= na) {
             break;
         }
         let v = letters::visit_at(w, at, slavo);
@@ -92,7 +78,7 @@ pub fn walk(w: &[u8], limit: usize, p: &mut [u8], a: &mut [u8]) -> Tally
         np = put(p, np, limit, x);
         na = put(a, na, limit, y);
         visits += 1;
-        at = behind(at, over, w.len());
+        at = at + 1 + over;
     }
     Tally {
         primary: np,

@@ -30,11 +30,7 @@ fn has_w_or_witz(w: &[u8], at: usize, b: u8) -> bool
     requires { ⌜ at < length (now w) ⌝ }
     ensures { λ r. ⌜ r ≡ (eqb b 119 || isAt (upper (now (w .entry))) at 4 (bytes "WITZ")) ⌝ }
 {
-    if b == b'w' {
-        true
-    } else {
-        is_witz(w, at)
-    }
+    if b == b'w' { true } else { is_witz(w, at) }
 }
 
 // WITZ stands at `at`. Its W is compared first, as the scan does it, so that a compiler sees that this never holds there.

@@ -1,5 +1,4 @@
 -- `walk::mark::is_witz` meets its contract: where the first byte is no W, WITZ does not stand there. Assumes nothing.
-use mathlib.Core.Path.{refl}
 use borrow.Author.Needs.{needs}
 use Rattle.walk.proofs.Word.{no-witz}
 use Rattle.walk.proofs.mark.is_witz.Statement.{statement}

@@ -39,11 +39,11 @@ small : (c : ℕ) → alike (λ x. eqb (bitOr x 32) (c + 32)) (λ x. eqb (up x) 
 small c e x h = alike-at (λ x. eqb (bitOr x 32) (c + 32)) (λ x. eqb (up x) c) 256 x e h
 
 -- WITZ begins with a W
-pub no-witz : (w : List ℕ) (i : ℕ) → getD w i 0 < 256 → (bitOr (getD w i 0) 32 ≡ 119 → ⊥) → false ≡ isAt (upper w) i 4 (bytes "WITZ")
+pub no-witz : (w : List ℕ) (i b : ℕ) → getD w i 0 < 256 → b ≡ bitOr (getD w i 0) 32 → (b ≡ 119 → ⊥) → false ≡ isAt (upper w) i 4 (bytes "WITZ")
 unfolding up
-no-witz w i byte h =
+no-witz w i b byte is h =
     sym (window-differs w i 4 (bytes "WITZ") 0 (omega arith) (λ e.
-    h (eqb-true _ _ (small 87 refl (getD w i 0) byte ∙ eq-eqb _ _ (rw (add-zero i) at e)))))
+    h (is ∙ eqb-true _ _ (small 87 refl (getD w i 0) byte ∙ eq-eqb _ _ (rw (add-zero i) at e)))))
 
 -- ---- a text of one byte, and of two, at the front
 one-there : (b x : ℕ) (r : List ℕ) → isAt (b ∷ r) 0 1 (x ∷ []) ≡ eqb b x

@@ -1,9 +1,9 @@
 // The Slavo-Germanic mark.
 ghost use mathlib.Core.Path.{_≡_};
-ghost use Prim.Native.Nat.{_<_};
 ghost use mathlib.Core.Bool.{_||_};
 ghost use lib.Dec.{eqb};
-ghost use lib.ListN.{length};
+ghost use lib.Bits.{bitOr};
+ghost use lib.ListN.{getD};
 ghost use Rattle.windows.specs.Text.{bytes, upper};
 ghost use Rattle.windows.specs.Window.{isAt};
 ghost use Rattle.walk.specs.Word.{slavoGermanic};
@@ -27,18 +27,17 @@ pub fn is_slavo_germanic(w: &[u8]) -> bool
 
 // `b`, the small letter at `at`, is w, or WITZ stands there. WITZ is asked only where no W is found, as in the Rust.
 fn has_w_or_witz(w: &[u8], at: usize, b: u8) -> bool
-    requires { ⌜ at < length (now w) ⌝ }
+    requires { ⌜ b ≡ bitOr (getD (now w) at 0) 32 ⌝ }
     ensures { λ r. ⌜ r ≡ (eqb b 119 || isAt (upper (now (w .entry))) at 4 (bytes "WITZ")) ⌝ }
 {
-    if b == b'w' { true } else { is_witz(w, at) }
+    if b == b'w' { true } else { is_witz(w, at, b) }
 }
 
-// WITZ stands at `at`. Its W is compared first, as the scan does it, so that a compiler sees that this never holds there.
-fn is_witz(w: &[u8], at: usize) -> bool
-    requires { ⌜ at < length (now w) ⌝ }
+// WITZ stands at `at`. Its W is asked of `b` first, so that a compiler sees that the scan never gets further.
+fn is_witz(w: &[u8], at: usize, b: u8) -> bool
+    requires { ⌜ b ≡ bitOr (getD (now w) at 0) 32 ⌝ }
     ensures { λ r. ⌜ r ≡ isAt (upper (now (w .entry))) at 4 (bytes "WITZ") ⌝ }
 {
-    let b = w[at] | 32;
     if b != b'w' {
         return false;
     }

@@ -8,8 +8,7 @@ pub is-witz-spec : {M : Type 1} → statement M
 is-witz-spec =
     tie.close
     (tie.spec
-    (λ c. search needs)
-    (λ c. no-witz _ _ (c .before .shared-slice-known2 .given (c .before .before .before .args .at) .fits) (c .if1 .taken))
+    (λ c. no-witz _ _ _ (c .before .shared-slice-known .given (c .before .before .args .at) .fits) (c .before .before .pre) (c .if1 .taken))
     (λ c. search needs)
     (λ c κs. search needs)
     (λ c. search needs))

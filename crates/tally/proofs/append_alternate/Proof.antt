@@ -1,4 +1,16 @@
+-- `tally::append_alternate` meets its contract: it is the thin function over `with_alternate`. Assumes nothing.
+use contract.Running.{givenOf, tables, tablesOf}
+use denote.Triple.Table.{entered, cited}
+use Rattle.tally.proofs.Thin.{alternate, Core, Lent, thin-meets}
+use Rattle.tally.proofs.with_alternate.Symbol as core
+use Rattle.tally.proofs.with_alternate.Met as core-thm
+use Rattle.tally.proofs.append_alternate.Key as key
 use Rattle.tally.proofs.append_alternate.Statement.{statement}
+use Rattle.tally.proofs.append_alternate.Code as code
 
 pub append-alternate-spec : {M : Type 1} → statement M
-append-alternate-spec 𝓤 H 𝓜 𝓖 𝓡 = ?
+unfolding code.routine tablesOf
+append-alternate-spec 𝓤 H 𝓜 𝓖 𝓡 =
+    entered 𝓤 H (Lent alternate 𝓤 H (𝓖 .A)) (tables 𝓤 H 𝓜 𝓡 code.env .C) (tables 𝓤 H 𝓜 𝓡 code.env .Λ) key.name code.function (code.unfolded 𝓤 H 𝓜 𝓡)
+    (thin-meets alternate core.name 𝓤 H (𝓖 .A) (givenOf 𝓤 H 𝓜 𝓖) (tablesOf 𝓤 H 𝓜 (tables 𝓤 H 𝓜 𝓡 code.env))
+    (cited 𝓤 H (Core alternate 𝓤 H (𝓖 .A)) 𝓜 𝓡 code.env core.name core.routine code.calls-tally·with-alternate (core-thm.met 𝓤 H 𝓜 𝓖 𝓡)))

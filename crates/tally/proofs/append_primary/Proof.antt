@@ -1,4 +1,16 @@
+-- `tally::append_primary` meets its contract: it is the thin function over `with_primary`. Assumes nothing.
+use contract.Running.{givenOf, tables, tablesOf}
+use denote.Triple.Table.{entered, cited}
+use Rattle.tally.proofs.Thin.{primary, Core, Lent, thin-meets}
+use Rattle.tally.proofs.with_primary.Symbol as core
+use Rattle.tally.proofs.with_primary.Met as core-thm
+use Rattle.tally.proofs.append_primary.Key as key
 use Rattle.tally.proofs.append_primary.Statement.{statement}
+use Rattle.tally.proofs.append_primary.Code as code
 
 pub append-primary-spec : {M : Type 1} → statement M
-append-primary-spec 𝓤 H 𝓜 𝓖 𝓡 = ?
+unfolding code.routine tablesOf
+append-primary-spec 𝓤 H 𝓜 𝓖 𝓡 =
+    entered 𝓤 H (Lent primary 𝓤 H (𝓖 .A)) (tables 𝓤 H 𝓜 𝓡 code.env .C) (tables 𝓤 H 𝓜 𝓡 code.env .Λ) key.name code.function (code.unfolded 𝓤 H 𝓜 𝓡)
+    (thin-meets primary core.name 𝓤 H (𝓖 .A) (givenOf 𝓤 H 𝓜 𝓖) (tablesOf 𝓤 H 𝓜 (tables 𝓤 H 𝓜 𝓡 code.env))
+    (cited 𝓤 H (Core primary 𝓤 H (𝓖 .A)) 𝓜 𝓡 code.env core.name core.routine code.calls-tally·with-primary (core-thm.met 𝓤 H 𝓜 𝓖 𝓡)))

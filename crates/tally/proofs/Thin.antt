@@ -13,6 +13,7 @@ use base.Logic.{SProp, ent, sep, emp, via, emp∗, comm∗, monoL, fst∗, exE, 
 use base.Fml.{GName, Lft, Share, ftrue, flft, fobs, fbor}
 use prog.Wp.{Heap, Calls, Loops, WpFn, Tables}
 use ghost.Atoms.{Atoms, sem}
+use contract.Lifetimes.{Lfts}
 use contract.Monad.{fact, factI}
 use types.Kit.{Given, ‵, raw, _⊛_, some, later, _$_, _∵_, !, qed, by, move, keep, drop, use1, split, join, pick, fsplit, fsplit3, fjoin, fjoin3, feqI, suffices, frame, await, done}
 use types.Run.{look, look-raw, init, store-raw, forget, stop, hop, from, load, unit-lit, of-opd, and-then, no-more, assigns, land, returns, enter, alloc1, alloc0, params1, pass1, pass0, free1, free0}
@@ -30,9 +31,9 @@ use denote.Struct.Steps.{spelt}
 use denote.Struct.Laws as LL
 use denote.Triple.Statement.{Contract, Triple}
 use denote.Triple.Call.{calls-at}
-use denote.Triple.Entry.{onEntry}
+use denote.Triple.Entry.{Args, Res, onEntry}
 use denote.Triple.Spec.{Meets, tripleOf}
-use denote.Triple.Clauses.{Ended, Clauses, ensured, lasts, closing}
+use denote.Triple.Clauses.{Ended, Clauses, AtExit, ensured, lasts, closing}
 use denote.Triple.Walked.{says, needs, Stays, stay-ref, stay-none, walkOf, AllGo, goes-none, goes-ref, Walks, ends-at, walked, walk-meets}
 use denote.Exit.{yes}
 use Rattle.rules.specs.declared.Visit.{Visit}
@@ -129,6 +130,12 @@ lent-clauses d 𝓤 κs a = record {
   requires = λ _. require 𝓤 (d .asks) (d .asked (now (a .0)) (a .1 .0) (a .1 .1 .0));
   ensures = λ _ _ e. fact 𝓤 (now (e .0) ≡ d .made (now (a .0)) (a .1 .0) (a .1 .1 .0));
 }
+
+-- the tally at exit is what the core makes of the tally at entry
+abbrev pub Promises : Does → {M : Type 1} (𝓤 : URA M) → Clauses 𝓤 lent-ended → Type 2
+Promises d 𝓤 c =
+    (κs : Lfts 1) (a : Args (lent-ended .signature) κs) (g : c κs a .ghost) (r : Res (lent-ended .signature) κs) (e : AtExit lent-ended κs)
+    → c κs a .ensures g r e ≡ fact 𝓤 (now (e .0) ≡ d .made (now (a .0)) (a .1 .0) (a .1 .1 .0))
 
 abbrev pub Core : Does → {M : Type 1} (𝓤 : URA M) (H : Heap 𝓤) (A : Atoms 𝓤) → Contract 𝓤
 Core d 𝓤 H A = tripleOf 𝓤 H A (core-ended .signature) (closing 𝓤 H A core-ended (core-clauses d 𝓤))

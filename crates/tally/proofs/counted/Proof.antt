@@ -42,7 +42,7 @@ use denote.Exit.{yes}
 use Rattle.rules.specs.declared.Visit.{Visit}
 use Rattle.rules.proofs.Visit as VT
 use Rattle.rules.proofs.Visit.Laws as VT′
-use Rattle.tally.specs.Tally.{withPrimary, withAlternate, counted}
+use Rattle.tally.specs.Tally.{withPrimary, withAlternate, withVisit, counted}
 use Rattle.tally.specs.declared.Tally.{Tally}
 use Rattle.tally.proofs.Tally as T
 use Rattle.tally.proofs.Tally.Laws as T′
@@ -124,7 +124,11 @@ module _ {M : Type 1} (𝓤 : URA M) (H : Heap 𝓤) (A : Atoms 𝓤) (W : Given
     h₂ = withAlternate h₁ n v
 
     abbrev h₃ : Tally
-    h₃ = counted h n v
+    h₃ = withVisit h₂ n v
+
+    -- the three together are what is promised
+    all-three : h₃ ≡ counted h n v
+    all-three = refl
 
     abbrev Post : Val → SProp 𝓤
     Post = walkOf 𝓤 H A own.ended stayed (own.clauses 𝓤 H A at-mem run) .post ((tt, tt, tt, x, at), tt)
@@ -132,7 +136,7 @@ module _ {M : Type 1} (𝓤 : URA M) (H : Heap 𝓤) (A : Atoms 𝓤) (W : Given
     exits : ent 𝓤 (sem 𝓤 H A (R .own h₃ (tally-val h₃ ∷ []))) (Post (tally-val h₃))
     exits =
         qed W (‵ (R .own h₃ (tally-val h₃ ∷ [])) ∷ []) ∵
-        suffices ! _ (ends-at 𝓤 H A own.ended stayed (own.clauses 𝓤 H A at-mem run) W ((tt, tt, tt, x, at), tt) (tally-val h₃) h₃ (tt, (tt, (tt, tt))) (tt, (tt, (tt, tt)))) $ says ! refl $
+        suffices ! _ (ends-at 𝓤 H A own.ended stayed (own.clauses 𝓤 H A at-mem run) W ((tt, tt, tt, x, at), tt) (tally-val h₃) h₃ (tt, (tt, (tt, tt))) (tt, (tt, (tt, tt)))) $ says ! all-three $
         nothing ! $ owned ! S (Is S) ((LL.makes VT.the-type VT′.the-plain) 𝓤 H A) v _ v-is $ fjoin ! $ owned ! usize (Is usize) (uint-makes 𝓤 H A W w64) n _ (refl, n-fits) $ fjoin ! $
         owned ! R (Is R) ((LL.makes T.the-type T′.the-plain) 𝓤 H A) h _ h-is $ fjoin ! $ nothing ! $ done !
 

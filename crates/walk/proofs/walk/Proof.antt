@@ -18,10 +18,10 @@ use Rattle.walk.proofs.walk.Statement.{statement}
 use Rattle.walk.proofs.walk.Tie as tie
 
 abbrev Inv-loop : tie.InvT-loop
-Inv-loop w limit p₀ a₀ slavo at₀ np₀ na₀ visits₀ p a at np na visits = Going w p₀ a₀ p a limit at np na visits
+Inv-loop w limit p₀ a₀ slavo at₀ t₀ p a at t = Going w p₀ a₀ p a limit at t
 
 abbrev μ-loop : tie.MeasureT-loop
-μ-loop w limit p₀ a₀ slavo at₀ np₀ na₀ visits₀ p a at np na visits = length w - at
+μ-loop w limit p₀ a₀ slavo at₀ t₀ p a at t = length w - at
 
 is-slavo-germanic-requires : tie.Need-is-slavo-germanic-requires Inv-loop μ-loop
 is-slavo-germanic-requires c κs = search needs
@@ -39,21 +39,21 @@ visit-at-requires c κs = search needs
 
 -- from a visit back to the loop's head and to the entry
 abbrev head : tie.After-visit-at Inv-loop μ-loop → tie.At-loop Inv-loop μ-loop
-head c = c .before .before .before
+head c = c .before .before .before .before .before
 
 abbrev entry : tie.After-visit-at Inv-loop μ-loop → tie.Start Inv-loop μ-loop
 entry c = head c .before .before .before .before .before .before
 
 -- the place is inside the word, the visit is the rule's, and some code still takes bytes
 inside : (c : tie.After-visit-at Inv-loop μ-loop) → head c .loop .at < length (now (entry c .args .w))
-inside c = c .before .before .loop-test .taken
+inside c = c .before .before .before .before .loop-test .taken
 
 ruled : (c : tie.After-visit-at Inv-loop μ-loop) → c .visit-at .result ≡ ruleOf (now (entry c .args .w)) (head c .loop .at)
 ruled c =
     c .visit-at .ensures
     ∙ ap (λ (m : Bool). visit (upper (now (entry c .args .w))) (head c .loop .at) (marked m)) (head c .before .before .is-slavo-germanic .ensures)
 
-wanted : (c : tie.After-visit-at Inv-loop μ-loop) → (leb (entry c .args .limit) (head c .loop .np) && leb (entry c .args .limit) (head c .loop .na)) ≡ false
+wanted : (c : tie.After-visit-at Inv-loop μ-loop) → (leb (entry c .args .limit) (head c .loop .t .primary) && leb (entry c .args .limit) (head c .loop .t .alternate)) ≡ false
 wanted c = c .before .if1 .left
 
 put-requires : tie.Need-put-requires Inv-loop μ-loop
@@ -66,8 +66,8 @@ put-requires-2 c κs =
     let t = c .before .before .before .before .before in
     room-a (head t .loop .inv) (t .visit-at .result) (ruled t) (inside t) (wanted t) (entry t .pre .1)
 
-add-visits : tie.Need-add-visits Inv-loop μ-loop
-add-visits c =
+counted-requires : tie.Need-counted-requires Inv-loop μ-loop
+counted-requires c κs =
     let t = c .before .before .before .before .before .before .before .before in
     omega (arith, head t .loop .inv .low, inside t, entry t .good .0 .0)
 
@@ -77,27 +77,26 @@ over-few c = rw (c .visit-at .ensures) (visit-short _ _ _ .over)
 
 add-at : tie.Need-add-at Inv-loop μ-loop
 add-at c =
-    let t = c .before .before .before .before .before .before .before .before in
+    let t = c .before .before .before .before .before .before .before .before .before in
     omega (arith, inside t, entry t .good .0 .1)
 
 add-at-2 : tie.Need-add-at-2 Inv-loop μ-loop
 add-at-2 c =
-    let t = c .before .before .before .before .before .before .before .before in
+    let t = c .before .before .before .before .before .before .before .before .before in
     omega (arith, over-few t, inside t, entry t .good .0 .1)
 
 loop-less : tie.Need-loop-less Inv-loop μ-loop
 loop-less c =
-    let t = c .before .before .before .before .before .before .before .before in
+    let t = c .before .before .before .before .before .before .before .before .before in
     omega (arith, inside t)
 
 loop-again : tie.Need-loop-again Inv-loop μ-loop
 loop-again c =
-    let t = c .before .before .before .before .before .before .before .before in
-    let one = c .before .before .before .before .before .before .put in
-    let two = c .before .before .put2 in
-    turned (head t .loop .inv) (t .visit-at .result) (ruled t) (inside t) (wanted t) (one .result) (two .result)
-    (one .last .0) (two .last .0) (one .ensures .0) (two .ensures .0) (one .ensures .1) (two .ensures .1)
-    (entry t .pre .0) (entry t .pre .1)
+    let t = c .before .before .before .before .before .before .before .before .before in
+    let one = c .before .before .before .before .before .before .before .put in
+    let two = c .before .before .before .put2 in
+    turned (head t .loop .inv) (t .visit-at .result) (ruled t) (inside t) (wanted t) (c .counted .result) (one .last .0) (two .last .0)
+    (c .counted .ensures) (one .ensures) (two .ensures) (entry t .pre .0) (entry t .pre .1)
 
 same-length : tie.Need-same-length Inv-loop μ-loop
 same-length c = c .before .loop .inv .primary .long
@@ -109,13 +108,13 @@ returns : tie.Need-returns Inv-loop μ-loop
 returns c = at-end (c .before .loop .inv) (c .loop-test .left)
 
 same-length-3 : tie.Need-same-length-3 Inv-loop μ-loop
-same-length-3 c = c .before .before .loop .inv .primary .long
+same-length-3 c = c .before .before .before .before .loop .inv .primary .long
 
 same-length-4 : tie.Need-same-length-4 Inv-loop μ-loop
-same-length-4 c = c .before .before .loop .inv .alternate .long
+same-length-4 c = c .before .before .before .before .loop .inv .alternate .long
 
 returns-2 : tie.Need-returns-2 Inv-loop μ-loop
-returns-2 c = at-limit (c .before .before .loop .inv) (c .if1 .taken)
+returns-2 c = at-limit (c .before .before .before .before .loop .inv) (c .if1 .taken)
 
 pub walk-spec : {M : Type 1} → statement M
 walk-spec =
@@ -129,7 +128,7 @@ walk-spec =
     visit-at-requires
     put-requires
     put-requires-2
-    add-visits
+    counted-requires
     add-at
     add-at-2
     loop-less

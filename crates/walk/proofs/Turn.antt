@@ -1,4 +1,4 @@
--- One turn of the walk's loop, in terms of the definitions.
+-- One turn of the walk's loop, in terms of the definitions. Assumes nothing.
 use Prim.Native.Nat.{ℕ, zero, suc, _+_, _-_, _≤_, _<_, max}
 use mathlib.Core.Path.{_≡_, refl, sym, ap, _∙_, subst}
 use mathlib.Core.List.{List, [], _∷_, _++_}

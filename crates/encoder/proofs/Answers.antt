@@ -6,7 +6,7 @@ use mathlib.Core.Bool.{true, false}
 use native.Mathlib.Omega.{arith}
 use borrow.Author.Tests.{lt-ltb, le-ltb}
 use lib.ListN.{length}
-use Rattle.walk.specs.declared.Tally.{Tally}
+use Rattle.tally.specs.declared.Tally.{Tally}
 use Rattle.walk.specs.Walk.{tallyOf, filled, Coded}
 use Rattle.walk.specs.Word.{limitedOf}
 use Rattle.encoder.specs.declared.Limit.{Limit}

@@ -1,15 +1,19 @@
--- One turn of the walk's loop, in terms of the definitions.
-use Prim.Native.Nat.{ℕ, zero, suc, _+_, _-_, _≤_, _<_, min, max}
+-- One turn of the walk's loop, in terms of the definitions. Assumes nothing.
+use Prim.Native.Nat.{ℕ, zero, suc, _+_, _-_, _≤_, _<_, max}
 use mathlib.Core.Path.{_≡_, refl, sym, ap, _∙_, subst}
 use mathlib.Core.List.{List, [], _∷_, _++_}
+use mathlib.Core.Bool.{Bool, true, false, false≢true, _&&_}
 use native.Mathlib.Omega.{arith}
 use native.Mathlib.Nat.{add-zero}
-use borrow.Author.Tests.{eq-eqb, ne-eqb}
+use borrow.Author.Tests.{leb-true, leb-false, eq-eqb, ne-eqb}
+use lib.Dec.{leb}
 use lib.ListN.{length, take, length-take}
 use lib.Seq.{sets}
+use Rattle.windows.proofs.Facts.{both}
 use Rattle.rules.specs.declared.Visit.{Visit}
 use Rattle.rules.specs.Kept.{bytesOf}
-use Rattle.walk.specs.declared.Tally.{Tally}
+use Rattle.tally.specs.declared.Tally.{Tally}
+use Rattle.tally.specs.Tally.{counted}
 use Rattle.walk.specs.Walk.{places, toPrimary, toAlternate, Coded, ended, after, limited, tallyOf, filled}
 use Rattle.walk.specs.Word.{ruleOf, visitsOf, startOf, limitedOf}
 use Rattle.walk.proofs.Half.{Half, half-start, half-room, half-step, half-length, half-end}
@@ -24,19 +28,12 @@ skipped v at (suc k) (suc left) =
     rw (e, f) (skipped v (suc at) k left)
 
 -- before the end the walk visits the place it stands at, and goes on behind what that visit passes over
-pub next-place : (v : ℕ → Visit) (at next t : ℕ) → at < t → next ≡ min (at + 1 + v at .over) t → places v at 0 (t - at) ≡ at ∷ places v next 0 (t - next)
-next-place v at next t h e =
+next-place : (v : ℕ → Visit) (at t : ℕ) → at < t → places v at 0 (t - at) ≡ at ∷ places v (at + 1 + v at .over) 0 (t - (at + 1 + v at .over))
+next-place v at t h =
     let d : t - at ≡ suc (t - suc at) = omega arith in
-    rw d (ap (λ (l : List ℕ). at ∷ l) (skipped v (suc at) (v at .over) (t - suc at) ∙ go (t - next) refl))
-  where
-    go : (left : ℕ) → t - next ≡ left → places v (suc at + v at .over) 0 (t - suc at - v at .over) ≡ places v next 0 (t - next)
-    go zero z =
-        let a : t - suc at - v at .over ≡ 0 = omega arith in
-        rw (a, z)
-    go (suc left) z =
-        let a : suc at + v at .over ≡ next = omega arith in
-        let b : t - suc at - v at .over ≡ t - next = omega arith in
-        rw (a, b)
+    let n : suc at + v at .over ≡ at + 1 + v at .over = omega arith in
+    let l : t - suc at - v at .over ≡ t - (at + 1 + v at .over) = omega arith in
+    rw d (ap (λ (ps : List ℕ). at ∷ ps) (skipped v (suc at) (v at .over) (t - suc at) ∙ rw (n, l)))
 
 limited-visit : (g h : ℕ → List ℕ) (n m p : ℕ) (ps : List ℕ) → 0 < max n m → limited g h n m (p ∷ ps) ≡ after (take n (g p)) (take m (h p)) (limited g h (n - length (g p)) (m - length (h p)) ps)
 limited-visit g h n m p ps more = rw (ne-eqb (max n m) 0 (λ e. omega arith))
@@ -51,18 +48,17 @@ rest w limit at np na =
     limited (toPrimary (ruleOf w)) (toAlternate (ruleOf w)) (limit - np) (limit - na) (places (ruleOf w) at 0 (length w - at))
 
 -- both codes written, with their lengths and the count of visits
-abbrev pub Written : Coded → List ℕ → List ℕ → List ℕ → List ℕ → ℕ → ℕ → ℕ → Type 0
-Written c p₀ a₀ p a np na visits =
-    (_≡_ {A = Tally} (record { primary = np; alternate = na; visits = visits }) (tallyOf c)) × ((p ≡ filled (c .primary) p₀) × (a ≡ filled (c .alternate) a₀))
+abbrev pub Written : Coded → List ℕ → List ℕ → List ℕ → List ℕ → Tally → Type 0
+Written c p₀ a₀ p a t = (t ≡ tallyOf c) × ((p ≡ filled (c .primary) p₀) × (a ≡ filled (c .alternate) a₀))
 
 -- the loop's invariant
-pub record Going (w p₀ a₀ p a : List ℕ) (limit at np na visits : ℕ) : Type 0 where
-  pub primary : Half (limitedOf limit w .primary) (rest w limit at np na .primary) p₀ p limit np
-  pub alternate : Half (limitedOf limit w .alternate) (rest w limit at np na .alternate) a₀ a limit na
-  pub visited : visits + rest w limit at np na .visits ≡ limitedOf limit w .visits
-  pub low : visits ≤ at
+pub record Going (w p₀ a₀ p a : List ℕ) (limit at : ℕ) (t : Tally) : Type 0 where
+  pub primary : Half (limitedOf limit w .primary) (rest w limit at (t .primary) (t .alternate) .primary) p₀ p limit (t .primary)
+  pub alternate : Half (limitedOf limit w .alternate) (rest w limit at (t .primary) (t .alternate) .alternate) a₀ a limit (t .alternate)
+  pub visited : t .visits + rest w limit at (t .primary) (t .alternate) .visits ≡ limitedOf limit w .visits
+  pub low : t .visits ≤ at
 
-pub going : (w p a : List ℕ) (limit : ℕ) → Going w p a p a limit (startOf w) 0 0 0
+pub going : (w p a : List ℕ) (limit : ℕ) → Going w p a p a limit (startOf w) (record { primary = 0; alternate = 0; visits = 0 })
 unfolding visitsOf
 going w p a limit =
     let z : limit - 0 ≡ limit = omega arith in
@@ -78,83 +74,88 @@ left-over : (limit len : ℕ) (xs : List ℕ) → limit - (len + length (take (l
 left-over limit len xs = omega (arith, length-take (limit - len) xs)
 
 -- the loop's test, as the definition has it
-wants : (limit np na : ℕ) → min np na < limit → 0 < max (limit - np) (limit - na)
-wants limit np na h = omega arith
+wants : (limit np na : ℕ) → (leb limit np && leb limit na) ≡ false → 0 < max (limit - np) (limit - na)
+wants limit np na e = go (leb limit np) refl (leb limit na) refl
+  where
+    go : (x : Bool) → leb limit np ≡ x → (y : Bool) → leb limit na ≡ y → 0 < max (limit - np) (limit - na)
+    go true i true j = absurd (let z : true ≡ false = rw (i, j) at e in false≢true (sym z))
+    go true i false j = let l : na < limit = leb-false _ _ j in omega arith
+    go false i y j = let l : np < limit = leb-false _ _ i in omega arith
 
-wants-none : (limit np na : ℕ) → limit ≤ min np na → max (limit - np) (limit - na) ≡ 0
-wants-none limit np na h = omega arith
+wants-none : (limit np na : ℕ) → (leb limit np && leb limit na) ≡ true → max (limit - np) (limit - na) ≡ 0
+wants-none limit np na e = let b = both (leb limit np) (leb limit na) e in omega (arith, leb-true limit np (b .0), leb-true limit na (b .1))
 
 clipped : (limit len : ℕ) (xs : List ℕ) → len ≤ limit → len + length (take (limit - len) xs) ≤ limit
 clipped limit len xs h = omega (arith, length-take (limit - len) xs)
-
-further : (at over t n : ℕ) → at < t → n ≤ at → n + 1 ≤ min (at + 1 + over) t
-further at over t n h l = omega arith
 
 one-more : (a b c n : ℕ) → a + b ≡ n → b ≡ suc c → a + 1 + c ≡ n
 one-more a b c n e f = omega arith
 
 -- a turn that visits place `at`, where v is what the rule says there
-module _ {w p₀ a₀ p a : List ℕ} {limit at np na visits : ℕ} (s : Going w p₀ a₀ p a limit at np na visits) (v : Visit) (e : v ≡ ruleOf w at) (inside : at < length w) (wanted : min np na < limit) where
+module _ {w p₀ a₀ p a : List ℕ} {limit at : ℕ} {t : Tally} (s : Going w p₀ a₀ p a limit at t) (v : Visit) (e : v ≡ ruleOf w at) (inside : at < length w) (wanted : (leb limit (t .primary) && leb limit (t .alternate)) ≡ false) where
   x : List ℕ
-  x = take (limit - np) (bytesOf (v .primary))
+  x = take (limit - t .primary) (bytesOf (v .primary))
 
   y : List ℕ
-  y = take (limit - na) (bytesOf (v .alternate))
+  y = take (limit - t .alternate) (bytesOf (v .alternate))
 
-  onward : (next : ℕ) → next ≡ min (at + 1 + v .over) (length w) → rest w limit at np na ≡ after x y (rest w limit next (np + length x) (na + length y))
+  -- what is still to come behind it
+  to-come : Coded
   unfolding x y
-  onward next n =
-      let f : next ≡ min (at + 1 + ruleOf w at .over) (length w) = rw (← e) n in
-      ap (λ (ps : List ℕ). limited (toPrimary (ruleOf w)) (toAlternate (ruleOf w)) (limit - np) (limit - na) ps) (next-place (ruleOf w) at next (length w) inside f)
-      ∙ limited-visit (toPrimary (ruleOf w)) (toAlternate (ruleOf w)) (limit - np) (limit - na) at (places (ruleOf w) next 0 (length w - next)) (wants limit np na wanted)
-      ∙ rw (left-over limit np (bytesOf (v .primary)), left-over limit na (bytesOf (v .alternate)), e)
+  to-come = rest w limit (at + 1 + v .over) (t .primary + length x) (t .alternate + length y)
 
-  half-p : (next : ℕ) → next ≡ min (at + 1 + v .over) (length w) → Half (limitedOf limit w .primary) (x ++ rest w limit next (np + length x) (na + length y) .primary) p₀ p limit np
-  half-p next n = subst (λ (c : Coded). Half (limitedOf limit w .primary) (c .primary) p₀ p limit np) (onward next n) (s .primary)
+  onward : rest w limit at (t .primary) (t .alternate) ≡ after x y to-come
+  unfolding x y to-come
+  onward =
+      let n : ℕ = at + 1 + ruleOf w at .over in
+      ap (λ (ps : List ℕ). limited (toPrimary (ruleOf w)) (toAlternate (ruleOf w)) (limit - t .primary) (limit - t .alternate) ps) (next-place (ruleOf w) at (length w) inside)
+      ∙ limited-visit (toPrimary (ruleOf w)) (toAlternate (ruleOf w)) (limit - t .primary) (limit - t .alternate) at (places (ruleOf w) n 0 (length w - n)) (wants limit (t .primary) (t .alternate) wanted)
+      ∙ rw (left-over limit (t .primary) (bytesOf (v .primary)), left-over limit (t .alternate) (bytesOf (v .alternate)), e)
 
-  half-a : (next : ℕ) → next ≡ min (at + 1 + v .over) (length w) → Half (limitedOf limit w .alternate) (y ++ rest w limit next (np + length x) (na + length y) .alternate) a₀ a limit na
-  half-a next n = subst (λ (c : Coded). Half (limitedOf limit w .alternate) (c .alternate) a₀ a limit na) (onward next n) (s .alternate)
+  half-p : Half (limitedOf limit w .primary) (x ++ to-come .primary) p₀ p limit (t .primary)
+  half-p = subst (λ (c : Coded). Half (limitedOf limit w .primary) (c .primary) p₀ p limit (t .primary)) onward (s .primary)
+
+  half-a : Half (limitedOf limit w .alternate) (y ++ to-come .alternate) a₀ a limit (t .alternate)
+  half-a = subst (λ (c : Coded). Half (limitedOf limit w .alternate) (c .alternate) a₀ a limit (t .alternate)) onward (s .alternate)
 
   -- there is room for what is added
-  pub room-p : length (limitedOf limit w .primary) ≤ length p₀ → np + length (take (limit - np) (bytesOf (v .primary))) ≤ length p
+  pub room-p : length (limitedOf limit w .primary) ≤ length p₀ → t .primary + length (take (limit - t .primary) (bytesOf (v .primary))) ≤ length p
   unfolding x
-  room-p room = half-room x (rest w limit (min (at + 1 + v .over) (length w)) (np + length x) (na + length y) .primary) (half-p (min (at + 1 + v .over) (length w)) refl) room
+  room-p room = half-room x (to-come .primary) half-p room
 
-  pub room-a : length (limitedOf limit w .alternate) ≤ length a₀ → na + length (take (limit - na) (bytesOf (v .alternate))) ≤ length a
+  pub room-a : length (limitedOf limit w .alternate) ≤ length a₀ → t .alternate + length (take (limit - t .alternate) (bytesOf (v .alternate))) ≤ length a
   unfolding y
-  room-a room = half-room y (rest w limit (min (at + 1 + v .over) (length w)) (np + length x) (na + length y) .alternate) (half-a (min (at + 1 + v .over) (length w)) refl) room
+  room-a room = half-room y (to-come .alternate) half-a room
 
-  -- the turn: both additions are written, and the walk stands behind what the visit passes over
-  pub turned : (next np′ na′ : ℕ) (p′ a′ : List ℕ) → next ≡ min (at + 1 + v .over) (length w)
-      → np′ ≡ np + length (take (limit - np) (bytesOf (v .primary))) → na′ ≡ na + length (take (limit - na) (bytesOf (v .alternate)))
-      → p′ ≡ sets p np (take (limit - np) (bytesOf (v .primary))) → a′ ≡ sets a na (take (limit - na) (bytesOf (v .alternate)))
+  -- the turn: both additions are written, the visit is counted, and the walk stands behind what the visit passes over
+  pub turned : (t′ : Tally) (p′ a′ : List ℕ) → t′ ≡ counted t limit v
+      → p′ ≡ sets p (t .primary) (take (limit - t .primary) (bytesOf (v .primary))) → a′ ≡ sets a (t .alternate) (take (limit - t .alternate) (bytesOf (v .alternate)))
       → length (limitedOf limit w .primary) ≤ length p₀ → length (limitedOf limit w .alternate) ≤ length a₀
-      → Going w p₀ a₀ p′ a′ limit next np′ na′ (visits + 1)
-  unfolding x y
-  turned next np′ na′ p′ a′ n ep ea fp fa rp ra =
-      let r : Coded = rest w limit next (np + length x) (na + length y) in
-      let g : Going w p₀ a₀ (sets p np x) (sets a na y) limit next (np + length x) (na + length y) (visits + 1) =
+      → Going w p₀ a₀ p′ a′ limit (at + 1 + v .over) t′
+  unfolding x y to-come
+  turned t′ p′ a′ et ep ea rp ra =
+      let g : Going w p₀ a₀ (sets p (t .primary) x) (sets a (t .alternate) y) limit (at + 1 + v .over) (counted t limit v) =
       record {
-        primary = half-step x (r .primary) (half-p next n) (room-p rp) (clipped limit np (bytesOf (v .primary)) (s .primary .under));
-        alternate = half-step y (r .alternate) (half-a next n) (room-a ra) (clipped limit na (bytesOf (v .alternate)) (s .alternate .under));
-        visited = one-more visits (rest w limit at np na .visits) (r .visits) (limitedOf limit w .visits) (s .visited) (ap (λ (c : Coded). c .visits) (onward next n));
-        low = subst (λ (k : ℕ). visits + 1 ≤ k) (sym n) (further at (v .over) (length w) visits inside (s .low));
+        primary = half-step x (to-come .primary) half-p (room-p rp) (clipped limit (t .primary) (bytesOf (v .primary)) (s .primary .under));
+        alternate = half-step y (to-come .alternate) half-a (room-a ra) (clipped limit (t .alternate) (bytesOf (v .alternate)) (s .alternate .under));
+        visited = one-more (t .visits) (rest w limit at (t .primary) (t .alternate) .visits) (to-come .visits) (limitedOf limit w .visits) (s .visited) (ap (λ (c : Coded). c .visits) onward);
+        low = omega (arith, s .low);
       }
-      in rw (ep, ea, fp, fa) g
+      in rw (et, ep, ea) g
 
 -- the loop's end
-module _ {w p₀ a₀ p a : List ℕ} {limit at np na visits : ℕ} (s : Going w p₀ a₀ p a limit at np na visits) where
-  finished : rest w limit at np na ≡ ended → Written (limitedOf limit w) p₀ a₀ p a np na visits
+module _ {w p₀ a₀ p a : List ℕ} {limit at : ℕ} {t : Tally} (s : Going w p₀ a₀ p a limit at t) where
+  finished : rest w limit at (t .primary) (t .alternate) ≡ ended → Written (limitedOf limit w) p₀ a₀ p a t
   finished e =
-      let hp : Half (limitedOf limit w .primary) [] p₀ p limit np = subst (λ (c : Coded). Half (limitedOf limit w .primary) (c .primary) p₀ p limit np) e (s .primary) in
-      let ha : Half (limitedOf limit w .alternate) [] a₀ a limit na = subst (λ (c : Coded). Half (limitedOf limit w .alternate) (c .alternate) a₀ a limit na) e (s .alternate) in
-      let z : visits ≡ limitedOf limit w .visits = sym (add-zero visits) ∙ subst (λ (c : Coded). visits + c .visits ≡ limitedOf limit w .visits) e (s .visited) in
+      let hp : Half (limitedOf limit w .primary) [] p₀ p limit (t .primary) = subst (λ (c : Coded). Half (limitedOf limit w .primary) (c .primary) p₀ p limit (t .primary)) e (s .primary) in
+      let ha : Half (limitedOf limit w .alternate) [] a₀ a limit (t .alternate) = subst (λ (c : Coded). Half (limitedOf limit w .alternate) (c .alternate) a₀ a limit (t .alternate)) e (s .alternate) in
+      let z : t .visits ≡ limitedOf limit w .visits = sym (add-zero (t .visits)) ∙ subst (λ (c : Coded). t .visits + c .visits ≡ limitedOf limit w .visits) e (s .visited) in
       (λ i. record { primary = half-length hp i; alternate = half-length ha i; visits = z i }, (half-end hp, half-end ha))
 
   -- past the word's end
-  pub at-end : length w ≤ at → Written (limitedOf limit w) p₀ a₀ p a np na visits
+  pub at-end : length w ≤ at → Written (limitedOf limit w) p₀ a₀ p a t
   at-end h = let z : length w - at ≡ 0 = omega arith in finished (rw z)
 
   -- both codes have what the limit allows
-  pub at-limit : limit ≤ min np na → Written (limitedOf limit w) p₀ a₀ p a np na visits
-  at-limit h = finished (limited-full (toPrimary (ruleOf w)) (toAlternate (ruleOf w)) (limit - np) (limit - na) (places (ruleOf w) at 0 (length w - at)) (wants-none limit np na h))
+  pub at-limit : (leb limit (t .primary) && leb limit (t .alternate)) ≡ true → Written (limitedOf limit w) p₀ a₀ p a t
+  at-limit h = finished (limited-full (toPrimary (ruleOf w)) (toAlternate (ruleOf w)) (limit - t .primary) (limit - t .alternate) (places (ruleOf w) at 0 (length w - at)) (wants-none limit (t .primary) (t .alternate) h))

@@ -1,19 +1,49 @@
 -- The mark, one place at a time. Assumes nothing.
-use Prim.Native.Nat.{ℕ, suc, _+_, _≤_, _<_}
-use mathlib.Core.Path.{_≡_, refl, sym, ap, _∙_}
+use Prim.Native.Nat.{ℕ, zero, suc, _+_, _≤_, _<_}
+use mathlib.Core.Path.{_≡_, refl, sym, ap, ap₂, _∙_}
 use mathlib.Core.List.{List, [], _∷_}
-use mathlib.Core.Bool.{Bool, true, false, _&&_, _||_, and-true, or-false}
-use native.Mathlib.Nat.{zero-add}
+use mathlib.Core.Logic.{⊎-elim}
+use mathlib.Core.Bool.{Bool, true, false, not, cond, _&&_, _||_, and-true, or-false}
+use native.Mathlib.Nat.{zero-add, add-zero, eq-or-lt-of-le, le-of-suc-le-suc}
 use native.Mathlib.Numerals.{add-one}
 use native.Mathlib.Omega.{arith}
-use borrow.Author.Tests.{le-leb, lt-leb, leb-true, leb-false}
+use borrow.Author.Tests.{le-leb, lt-leb, leb-true, leb-false, eqb-true, eq-eqb}
+use lib.Bits.{bitOr}
 use lib.Dec.{leb, eqb}
 use lib.ListN.{length, getD, take, drop, length-drop, drop-of-length-le}
 use lib.Seq.{drop-cons}
 use Rattle.windows.specs.Text.{bytes, up, upper, same}
 use Rattle.windows.specs.Window.{isAt}
-use Rattle.windows.proofs.Facts.{length-upper, getD-upper}
+use Rattle.windows.proofs.Facts.{both, window-differs, length-upper, getD-upper}
 use Rattle.walk.specs.Word.{beginsOne, hasOne, markTexts, slavoGermanic}
+
+-- ---- small letters
+-- two tests that antt finds alike at each number below `n` are alike there
+abbrev alike : (ℕ → Bool) → (ℕ → Bool) → ℕ → Bool
+alike f g zero = true
+alike f g (suc n) = cond (f n) (g n) (not (g n)) && alike f g n
+
+alike-at : (f g : ℕ → Bool) (n k : ℕ) → alike f g n ≡ true → k < n → f k ≡ g k
+alike-at f g zero k e h = absurd (omega arith)
+alike-at f g (suc n) k e h =
+    let b = both (cond (f n) (g n) (not (g n))) (alike f g n) e in
+    ⊎-elim (λ q. rw q (one (f n) (g n) (b .0))) (λ l. alike-at f g n k (b .1) l) (eq-or-lt-of-le (le-of-suc-le-suc h))
+  where
+    one : (x y : Bool) → cond x y (not y) ≡ true → x ≡ y
+    one true y e = sym e
+    one false true e = e
+    one false false e = refl
+
+-- a byte with bit 32 set is a small letter just where its capital is the capital
+small : (c : ℕ) → alike (λ x. eqb (bitOr x 32) (c + 32)) (λ x. eqb (up x) c) 256 ≡ true → (x : ℕ) → x < 256 → eqb (bitOr x 32) (c + 32) ≡ eqb (up x) c
+small c e x h = alike-at (λ x. eqb (bitOr x 32) (c + 32)) (λ x. eqb (up x) c) 256 x e h
+
+-- WITZ begins with a W
+pub no-witz : (w : List ℕ) (i b : ℕ) → getD w i 0 < 256 → b ≡ bitOr (getD w i 0) 32 → (b ≡ 119 → ⊥) → false ≡ isAt (upper w) i 4 (bytes "WITZ")
+unfolding up
+no-witz w i b byte is h =
+    sym (window-differs w i 4 (bytes "WITZ") 0 (omega arith) (λ e.
+    h (is ∙ eqb-true _ _ (small 87 refl (getD w i 0) byte ∙ eq-eqb _ _ (rw (add-zero i) at e)))))
 
 -- ---- a text of one byte, and of two, at the front
 one-there : (b x : ℕ) (r : List ℕ) → isAt (b ∷ r) 0 1 (x ∷ []) ≡ eqb b x
@@ -47,9 +77,9 @@ begins-marked b r =
     (four-tests (eqb b 87) (eqb b 75) (eqb b 67 && eqb (getD r 0 0) 90) (isAt (b ∷ r) 0 4 (bytes "WITZ")))
 
 -- ---- what a scan with the byte before it at hand finds
-unfoldable pub scan : ℕ → List ℕ → Bool
+unfoldable pub scan : Bool → List ℕ → Bool
 scan c [] = false
-scan c (b ∷ u) = (((eqb b 87 || isAt (b ∷ u) 0 4 (bytes "WITZ")) || eqb b 75) || (eqb b 90 && eqb c 67)) || scan b u
+scan c (b ∷ u) = (((eqb b 87 || isAt (b ∷ u) 0 4 (bytes "WITZ")) || eqb b 75) || (eqb b 90 && c)) || scan (eqb b 67) u
 
 -- a CZ may be seen at its Z or at its C
 seen-at : (a z c h r : Bool) → ((a || (z && c)) || (h || r)) ≡ ((c && z) || ((a || h) || r))
@@ -62,21 +92,21 @@ seen-at false true false h r = refl
 seen-at false false true h r = refl
 seen-at false false false h r = refl
 
-scan-has : (c : ℕ) (u : List ℕ) → scan c u ≡ ((eqb c 67 && eqb (getD u 0 0) 90) || hasOne markTexts u)
+scan-has : (c : Bool) (u : List ℕ) → scan c u ≡ ((c && eqb (getD u 0 0) 90) || hasOne markTexts u)
 unfolding scan hasOne
-scan-has c [] = none (eqb c 67)
+scan-has c [] = none c
   where
     none : (q : Bool) → false ≡ ((q && false) || false)
     none true = refl
     none false = refl
 scan-has c (b ∷ u) =
-    ap (λ (q : Bool). (((eqb b 87 || isAt (b ∷ u) 0 4 (bytes "WITZ")) || eqb b 75) || (eqb b 90 && eqb c 67)) || q) (scan-has b u)
-    ∙ seen-at ((eqb b 87 || isAt (b ∷ u) 0 4 (bytes "WITZ")) || eqb b 75) (eqb b 90) (eqb c 67) (eqb b 67 && eqb (getD u 0 0) 90) (hasOne markTexts u)
-    ∙ ap (λ (q : Bool). (eqb c 67 && eqb b 90) || (q || hasOne markTexts u)) (sym (begins-marked b u))
+    ap (λ (q : Bool). (((eqb b 87 || isAt (b ∷ u) 0 4 (bytes "WITZ")) || eqb b 75) || (eqb b 90 && c)) || q) (scan-has (eqb b 67) u)
+    ∙ seen-at ((eqb b 87 || isAt (b ∷ u) 0 4 (bytes "WITZ")) || eqb b 75) (eqb b 90) c (eqb b 67 && eqb (getD u 0 0) 90) (hasOne markTexts u)
+    ∙ ap (λ (q : Bool). (c && eqb b 90) || (q || hasOne markTexts u)) (sym (begins-marked b u))
 
--- what was found, and what the scan from place `i` on finds
+-- what was found, and what the scan from place `i` on finds behind the small letter `last`
 abbrev pub Found : List ℕ → ℕ → ℕ → Bool → Type 0
-Found w i last found = (found || scan last (drop i (upper w))) ≡ scan 0 (upper w)
+Found w i last found = (found || scan (eqb last 99) (drop i (upper w))) ≡ scan false (upper w)
 
 pub scan-start : (w : List ℕ) → Found w 0 0 false
 scan-start w = refl
@@ -94,23 +124,26 @@ here u i n t h = ap (λ (q : Bool). q && same (take n (drop i u)) t) (fits (leb 
     fits true e = let l = leb-true n (length (drop i u)) e in rw (zero-add, e) (le-leb (i + n) (length u) (omega (arith, length-drop i u)))
     fits false e = let l = leb-false n (length (drop i u)) e in rw (zero-add, e) (lt-leb (i + n) (length u) (omega (arith, length-drop i u)))
 
-pub scan-turn : (w : List ℕ) (i b last : ℕ) (q found : Bool) → i < length w → b ≡ up (getD w i 0)
-    → q ≡ (eqb b 87 || isAt (upper w) i 4 (bytes "WITZ")) → Found w i last found
-    → Found w (i + 1) b (found || ((q || eqb b 75) || (eqb b 90 && eqb last 67)))
-unfolding scan
-scan-turn w i b last q found h eb eq inv =
+pub scan-turn : (w : List ℕ) (i last : ℕ) (q found : Bool) → i < length w → getD w i 0 < 256
+    → q ≡ (eqb (bitOr (getD w i 0) 32) 119 || isAt (upper w) i 4 (bytes "WITZ")) → Found w i last found
+    → Found w (i + 1) (bitOr (getD w i 0) 32) (found || ((q || eqb (bitOr (getD w i 0) 32) 107) || (eqb (bitOr (getD w i 0) 32) 122 && eqb last 99)))
+unfolding scan up
+scan-turn w i last q found h byte eq inv =
+    let b : ℕ = up (getD w i 0) in
     let k : i < length (upper w) = rw length-upper h in
     let c : drop i (upper w) ≡ b ∷ drop (i + 1) (upper w) =
-    rw add-one (drop-cons (upper w) i 0 k ∙ ap (λ (x : ℕ). x ∷ drop (suc i) (upper w)) (getD-upper w i ∙ sym eb)) in
+    rw add-one (drop-cons (upper w) i 0 k ∙ ap (λ (x : ℕ). x ∷ drop (suc i) (upper w)) (getD-upper w i)) in
     let n : q ≡ (eqb b 87 || isAt (b ∷ drop (i + 1) (upper w)) 0 4 (bytes "WITZ")) =
-    eq ∙ ap (λ (x : Bool). eqb b 87 || x) (here (upper w) i 4 (bytes "WITZ") (omega arith) ∙ ap (λ (u : List ℕ). isAt u 0 4 (bytes "WITZ")) c) in
-    found-more found ((q || eqb b 75) || (eqb b 90 && eqb last 67)) (scan b (drop (i + 1) (upper w)))
-    ∙ ap (λ (x : Bool). found || (((x || eqb b 75) || (eqb b 90 && eqb last 67)) || scan b (drop (i + 1) (upper w)))) n
-    ∙ ap (λ (u : List ℕ). found || scan last u) (sym c) ∙ inv
+    eq ∙ ap₂ _||_ (small 87 refl (getD w i 0) byte) (here (upper w) i 4 (bytes "WITZ") (omega arith) ∙ ap (λ (u : List ℕ). isAt u 0 4 (bytes "WITZ")) c) in
+    found-more found _ _
+    ∙ ap (λ (x : Bool). found || x)
+    (ap₂ _||_ (ap₂ _||_ (ap₂ _||_ n (small 75 refl (getD w i 0) byte)) (ap (λ (x : Bool). x && eqb last 99) (small 90 refl (getD w i 0) byte)))
+    (ap (λ (x : Bool). scan x (drop (i + 1) (upper w))) (small 67 refl (getD w i 0) byte)))
+    ∙ ap (λ (u : List ℕ). found || scan (eqb last 99) u) (sym c) ∙ inv
 
 pub scan-end : (w : List ℕ) (i last : ℕ) (found : Bool) → length w ≤ i → Found w i last found → found ≡ slavoGermanic (upper w)
 unfolding scan slavoGermanic
 scan-end w i last found h inv =
     let l : length (upper w) ≤ i = rw length-upper h in
     let e : drop i (upper w) ≡ [] = drop-of-length-le (upper w) l in
-    sym (or-false found) ∙ ap (λ (u : List ℕ). found || scan last u) (sym e) ∙ inv ∙ scan-has 0 (upper w)
+    sym (or-false found) ∙ ap (λ (u : List ℕ). found || scan (eqb last 99) u) (sym e) ∙ inv ∙ scan-has false (upper w)

@@ -8,7 +8,7 @@ use lib.ListN.{length, take, drop}
 use lib.Dec.{eqb}
 use Rattle.rules.specs.declared.Visit.{Visit}
 use Rattle.rules.specs.Kept.{bytesOf}
-use Rattle.walk.specs.declared.Tally.{Tally}
+use Rattle.tally.specs.declared.Tally.{Tally}
 
 -- the places visited among the `left` bytes from place `at` on, of which the first `skip` are passed over
 abbrev pub places : (ℕ → Visit) → ℕ → ℕ → ℕ → List ℕ

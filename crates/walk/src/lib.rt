@@ -3,21 +3,15 @@
 pub mod mark;
 
 use rules::Add;
+use tally::Tally;
 ghost use mathlib.Core.Path.{_≡_};
-ghost use Prim.Native.Nat.{_+_, _-_, _≤_, _<_, min};
+ghost use Prim.Native.Nat.{_+_, _-_, _≤_};
 ghost use lib.ListN.{length, take};
 ghost use lib.Seq.{sets};
 ghost use mathlib.Core.List.{[], _∷_};
 ghost use Rattle.rules.specs.Kept.{bytesOf};
 ghost use Rattle.walk.specs.Walk.{filled, tallyOf};
 ghost use Rattle.walk.specs.Word.{startOf, limitedOf};
-
-// Both code lengths and the count of visits.
-pub struct Tally {
-    pub primary: usize,
-    pub alternate: usize,
-    pub visits: usize,
-}
 
 // The place of the first visit: 1 where the first letter is silent.
 pub fn start_of(w: &[u8]) -> usize
@@ -26,45 +20,30 @@ pub fn start_of(w: &[u8]) -> usize
     rules::one_if(windows::front(w, 2, b"GNKNPNWRPS"))
 }
 
-fn lesser(a: usize, b: usize) -> usize
-    ensures { λ r. ⌜ r ≡ min a b ⌝ }
-{
-    if a < b { a } else { b }
-}
-
-// The place behind a visit, and the end where that lies past it.
-fn behind(at: usize, over: usize, end: usize) -> usize
-    requires { ⌜ at < end ⌝ }
-    ensures { λ r. ⌜ r ≡ min (at + 1 + over) end ⌝ }
-{
-    if over < end - at { at + 1 + over } else { end }
-}
-
-// Writes a byte at `len` unless the limit is reached, and answers the new length (the Rust's append_char).
-fn put_byte(buf: &mut [u8], len: usize, limit: usize, x: u8) -> usize
+// Writes a byte at `len` unless the limit is reached (the Rust's append_char).
+fn put_byte(buf: &mut [u8], len: usize, limit: usize, x: u8)
     requires { ⌜ len + length (take (limit - len) (x ∷ [])) ≤ length (now buf) ⌝ }
-    ensures length { λ r. ⌜ r ≡ len + length (take (limit - len) (x ∷ [])) ⌝ }
-    ensures content { λ r. ⌜ now (buf .exit) ≡ sets (now (buf .entry)) len (take (limit - len) (x ∷ [])) ⌝ }
+    ensures { λ _. ⌜ now (buf .exit) ≡ sets (now (buf .entry)) len (take (limit - len) (x ∷ [])) ⌝ }
 {
     if limit <= len {
-        return len;
+        return;
     }
     buf[len] = x;
-    len + 1
 }
 
 // Writes an addition, clipped to the limit (the Rust's append_str).
-fn put(buf: &mut [u8], len: usize, limit: usize, add: Add) -> usize
+fn put(buf: &mut [u8], len: usize, limit: usize, add: Add)
     requires { ⌜ len + length (take (limit - len) (bytesOf add)) ≤ length (now buf) ⌝ }
-    ensures length { λ r. ⌜ r ≡ len + length (take (limit - len) (bytesOf add)) ⌝ }
-    ensures content { λ r. ⌜ now (buf .exit) ≡ sets (now (buf .entry)) len (take (limit - len) (bytesOf add)) ⌝ }
+    ensures { λ _. ⌜ now (buf .exit) ≡ sets (now (buf .entry)) len (take (limit - len) (bytesOf add)) ⌝ }
 {
     match add {
-        Add::Nothing => len,
+        Add::Nothing => {}
         Add::One(x) => put_byte(buf, len, limit, x),
         Add::Two(x, y) => {
-            let next = put_byte(buf, len, limit, x);
-            put_byte(buf, next, limit, y)
+            if len < limit {
+                buf[len] = x;
+                put_byte(buf, len + 1, limit, y);
+            }
         }
     }
 }
@@ -78,25 +57,23 @@ pub fn walk(w: &[u8], limit: usize, p: &mut [u8], a: &mut [u8]) -> Tally
 {
     let slavo = mark::is_slavo_germanic(w);
     let mut at = start_of(w);
-    let mut np = 0;
-    let mut na = 0;
-    let mut visits = 0;
+    let mut t = Tally {
+        primary: 0,
+        alternate: 0,
+        visits: 0,
+    };
     while at < w.len() {
-        if limit <= lesser(np, na) {
+        if (limit <= t.primary) & (limit <= t.alternate) {
             break;
         }
         let v = letters::visit_at(w, at, slavo);
         let x = v.primary;
         let y = v.alternate;
         let over = v.over;
-        np = put(p, np, limit, x);
-        na = put(a, na, limit, y);
-        visits += 1;
-        at = behind(at, over, w.len());
+        put(p, t.primary, limit, x);
+        put(a, t.alternate, limit, y);
+        t = tally::counted(t, limit, v);
+        at = at + 1 + over;
     }
-    Tally {
-        primary: np,
-        alternate: na,
-        visits: visits,
-    }
+    t
 }

@@ -1,25 +1,27 @@
 -- `walk::walk` meets its contract. The invariant, `Going`, says that the bytes written and those that the definition has
 -- still to come from here on are the code; the measure is what is left of the word. Assumes nothing.
-use Prim.Native.Nat.{_-_, _<_, min}
+use Prim.Native.Nat.{_-_, _<_, _≤_}
 use mathlib.Core.Path.{_≡_, _∙_, ap}
-use mathlib.Core.Bool.{Bool}
+use mathlib.Core.Bool.{Bool, false, _&&_}
 use native.Mathlib.Omega.{arith}
 use borrow.Author.Needs.{needs}
 use denote.Ref.{now}
+use lib.Dec.{leb}
 use lib.ListN.{length}
 use Rattle.windows.specs.Text.{upper}
 use Rattle.rules.specs.Cond.{marked}
 use Rattle.rules.specs.Table.{visit}
+use Rattle.rules.proofs.Bound.{visit-short}
 use Rattle.walk.specs.Word.{ruleOf}
 use Rattle.walk.proofs.Turn.{Going, going, room-p, room-a, turned, at-end, at-limit}
 use Rattle.walk.proofs.walk.Statement.{statement}
 use Rattle.walk.proofs.walk.Tie as tie
 
 abbrev Inv-loop : tie.InvT-loop
-Inv-loop w limit p₀ a₀ slavo at₀ np₀ na₀ visits₀ p a at np na visits = Going w p₀ a₀ p a limit at np na visits
+Inv-loop w limit p₀ a₀ slavo at₀ t₀ p a at t = Going w p₀ a₀ p a limit at t
 
 abbrev μ-loop : tie.MeasureT-loop
-μ-loop w limit p₀ a₀ slavo at₀ np₀ na₀ visits₀ p a at np na visits = length w - at
+μ-loop w limit p₀ a₀ slavo at₀ t₀ p a at t = length w - at
 
 is-slavo-germanic-requires : tie.Need-is-slavo-germanic-requires Inv-loop μ-loop
 is-slavo-germanic-requires c κs = search needs
@@ -32,30 +34,27 @@ loop-holds c =
     let a = c .before .before .before .before .before .args in
     rw (c .start-of .ensures) (going (now (a .w)) (now (a .p)) (now (a .a)) (a .limit))
 
-lesser-requires : tie.Need-lesser-requires Inv-loop μ-loop
-lesser-requires c κs = search needs
-
 visit-at-requires : tie.Need-visit-at-requires Inv-loop μ-loop
 visit-at-requires c κs = search needs
 
 -- from a visit back to the loop's head and to the entry
 abbrev head : tie.After-visit-at Inv-loop μ-loop → tie.At-loop Inv-loop μ-loop
-head c = c .before .before .before .before
+head c = c .before .before .before .before .before
 
 abbrev entry : tie.After-visit-at Inv-loop μ-loop → tie.Start Inv-loop μ-loop
 entry c = head c .before .before .before .before .before .before
 
 -- the place is inside the word, the visit is the rule's, and some code still takes bytes
 inside : (c : tie.After-visit-at Inv-loop μ-loop) → head c .loop .at < length (now (entry c .args .w))
-inside c = c .before .before .before .loop-test .taken
+inside c = c .before .before .before .before .loop-test .taken
 
 ruled : (c : tie.After-visit-at Inv-loop μ-loop) → c .visit-at .result ≡ ruleOf (now (entry c .args .w)) (head c .loop .at)
 ruled c =
     c .visit-at .ensures
     ∙ ap (λ (m : Bool). visit (upper (now (entry c .args .w))) (head c .loop .at) (marked m)) (head c .before .before .is-slavo-germanic .ensures)
 
-wanted : (c : tie.After-visit-at Inv-loop μ-loop) → min (head c .loop .np) (head c .loop .na) < entry c .args .limit
-wanted c = omega (arith, c .before .if1 .left, c .before .before .lesser .ensures)
+wanted : (c : tie.After-visit-at Inv-loop μ-loop) → (leb (entry c .args .limit) (head c .loop .t .primary) && leb (entry c .args .limit) (head c .loop .t .alternate)) ≡ false
+wanted c = c .before .if1 .left
 
 put-requires : tie.Need-put-requires Inv-loop μ-loop
 put-requires c κs =
@@ -67,27 +66,37 @@ put-requires-2 c κs =
     let t = c .before .before .before .before .before in
     room-a (head t .loop .inv) (t .visit-at .result) (ruled t) (inside t) (wanted t) (entry t .pre .1)
 
-add-visits : tie.Need-add-visits Inv-loop μ-loop
-add-visits c =
+counted-requires : tie.Need-counted-requires Inv-loop μ-loop
+counted-requires c κs =
     let t = c .before .before .before .before .before .before .before .before in
     omega (arith, head t .loop .inv .low, inside t, entry t .good .0 .0)
 
-behind-requires : tie.Need-behind-requires Inv-loop μ-loop
-behind-requires c κs = search needs
+-- a visit passes over at most three bytes, and a word has fewer than 2^63
+over-few : (c : tie.After-visit-at Inv-loop μ-loop) → c .visit-at .result .over ≤ 3
+over-few c = rw (c .visit-at .ensures) (visit-short _ _ _ .over)
+
+add-at : tie.Need-add-at Inv-loop μ-loop
+add-at c =
+    let t = c .before .before .before .before .before .before .before .before .before in
+    omega (arith, inside t, entry t .good .0 .1)
+
+add-at-2 : tie.Need-add-at-2 Inv-loop μ-loop
+add-at-2 c =
+    let t = c .before .before .before .before .before .before .before .before .before in
+    omega (arith, over-few t, inside t, entry t .good .0 .1)
 
 loop-less : tie.Need-loop-less Inv-loop μ-loop
 loop-less c =
     let t = c .before .before .before .before .before .before .before .before .before in
-    omega (arith, c .behind .ensures, inside t)
+    omega (arith, inside t)
 
 loop-again : tie.Need-loop-again Inv-loop μ-loop
 loop-again c =
     let t = c .before .before .before .before .before .before .before .before .before in
     let one = c .before .before .before .before .before .before .before .put in
     let two = c .before .before .before .put2 in
-    turned (head t .loop .inv) (t .visit-at .result) (ruled t) (inside t) (wanted t) (c .behind .result) (one .result) (two .result)
-    (one .last .0) (two .last .0) (c .behind .ensures) (one .ensures .0) (two .ensures .0) (one .ensures .1) (two .ensures .1)
-    (entry t .pre .0) (entry t .pre .1)
+    turned (head t .loop .inv) (t .visit-at .result) (ruled t) (inside t) (wanted t) (c .counted .result) (one .last .0) (two .last .0)
+    (c .counted .ensures) (one .ensures) (two .ensures) (entry t .pre .0) (entry t .pre .1)
 
 same-length : tie.Need-same-length Inv-loop μ-loop
 same-length c = c .before .loop .inv .primary .long
@@ -99,13 +108,13 @@ returns : tie.Need-returns Inv-loop μ-loop
 returns c = at-end (c .before .loop .inv) (c .loop-test .left)
 
 same-length-3 : tie.Need-same-length-3 Inv-loop μ-loop
-same-length-3 c = c .before .before .before .loop .inv .primary .long
+same-length-3 c = c .before .before .before .before .loop .inv .primary .long
 
 same-length-4 : tie.Need-same-length-4 Inv-loop μ-loop
-same-length-4 c = c .before .before .before .loop .inv .alternate .long
+same-length-4 c = c .before .before .before .before .loop .inv .alternate .long
 
 returns-2 : tie.Need-returns-2 Inv-loop μ-loop
-returns-2 c = at-limit (c .before .before .before .loop .inv) (omega arith)
+returns-2 c = at-limit (c .before .before .before .before .loop .inv) (c .if1 .taken)
 
 pub walk-spec : {M : Type 1} → statement M
 walk-spec =
@@ -116,12 +125,12 @@ walk-spec =
     is-slavo-germanic-requires
     start-of-requires
     loop-holds
-    lesser-requires
     visit-at-requires
     put-requires
     put-requires-2
-    add-visits
-    behind-requires
+    counted-requires
+    add-at
+    add-at-2
     loop-less
     loop-again
     same-length

@@ -22,10 +22,9 @@ is-slavo-germanic-spec =
     (λ c. scan-start (c .before .args .w .now))
     (λ c. search needs)
     (λ c κs. search needs)
-    (λ c κs. search needs)
     (λ c. search needs)
     (λ c. search needs)
     (λ c.
-    let h = c .before .before .before .before in
-    scan-turn _ _ _ (h .loop .last) _ (h .loop .found) (c .before .before .before .loop-test .taken) (c .before .capital .ensures) (c .has-w-or-witz .ensures) (h .loop .inv))
+    let h = c .before .before .before in
+    scan-turn _ _ (h .loop .last) _ (h .loop .found) (c .before .before .loop-test .taken) (c .before .shared-slice-known2 .given (h .loop .i) .fits) (c .has-w-or-witz .ensures) (h .loop .inv))
     (λ c. scan-end _ _ (c .before .loop .last) _ (c .loop-test .left) (c .before .loop .inv)))

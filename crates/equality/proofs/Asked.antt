@@ -19,7 +19,8 @@ use Rattle.encoder.proofs.Part.{chosen-code}
 use Rattle.encoder.specs.declared.Choice.{Choice}
 use Rattle.equality.specs.declared.Verdict.{Verdict}
 use Rattle.equality.specs.declared.Verdict.the-variants.{Equal, Different, TooLong, NotAscii}
-use Rattle.equality.specs.Equality.{sameBytes, unlessRefused, compared}
+use Rattle.windows.specs.Text.{same}
+use Rattle.equality.specs.Equality.{unlessRefused, compared}
 
 -- the verdict at an answer, where v is what an accepted word gives
 abbrev pub verdictBy : ℕ → Verdict → Answer → Verdict
@@ -66,7 +67,7 @@ pub part-is : {x : Encoder} {l : Limit} {w p a p′ a′ part : List ℕ} {r : A
 part-is {w = w} made e c np na n q f = f ∙ chosen-code e c np na n q ∙ ap (λ (x : Encoder). codeOf (x .limit) c w) made
 
 -- the comparison's test, at the chosen code
-pub compared-is : (q r : Bool) (code x y : List ℕ) → q ≡ sameBytes code x → x ≡ y → q ≡ r → cond r Equal Different ≡ compared code y
+pub compared-is : (q r : Bool) (code x y : List ℕ) → q ≡ same code x → x ≡ y → q ≡ r → cond r Equal Different ≡ compared code y
 compared-is q r code x y e f t =
-    let s : sameBytes code y ≡ r = rw (← f) (sym e ∙ t) in
+    let s : same code y ≡ r = rw (← f) (sym e ∙ t) in
     sym (ap (λ (k : Bool). cond k Equal Different) s)

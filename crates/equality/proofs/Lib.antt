@@ -1,5 +1,5 @@
 -- Laws of the equality question.
---     Bytes      comparing bytes; `same-sound`, `same-whole`: the comparison says exactly whether they are the same
+--     Bytes      comparing bytes, one place at a time
 --     Asked      what an answer of the encoder means for the verdict
 --     Table      `table`, `second-after-first`, `equal-exactly`, `two-empty`: when each answer is given
 --     NoChoice   no public function's promise leaves a choice

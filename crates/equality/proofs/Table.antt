@@ -18,9 +18,10 @@ use Rattle.encoder.proofs.Demand2.{taken-by}
 use Rattle.equality.specs.declared.Verdict.{Verdict}
 use Rattle.equality.specs.declared.Verdict.the-variants.{Equal, Different, TooLong, NotAscii}
 use Rattle.encoder.specs.Chosen.{codeOf}
-use Rattle.equality.specs.Equality.{wordOf, equalOf, sameBytes, unlessRefused, compared, verdictOf, Answered}
+use Rattle.equality.specs.Equality.{wordOf, equalOf, unlessRefused, compared, verdictOf, Answered}
 use Rattle.equality.specs.Table.{Told}
-use Rattle.equality.proofs.Bytes.{same-sound, same-whole}
+use Rattle.windows.specs.Text.{same}
+use Rattle.windows.proofs.Facts.{same-true, same-refl}
 
 -- by its five tests
 module _ (n high n′ high′ : ℕ) where
@@ -44,15 +45,15 @@ module _ (n high n′ high′ : ℕ) where
 taken-passes : (which : ℕ) (w : List ℕ) (v : Verdict) → Taken w → unlessRefused which w v ≡ v
 taken-passes which w v t = rw (le-ltb wordLimit (length w) (t .fits), le-ltb (firstHigh w) (length w) (no-high w (t .ascii)))
 
-compared-equal : (x y : List ℕ) (q : Bool) → sameBytes x y ≡ q → equalOf (cond q Equal Different) ≡ 1 → x ≡ y
-compared-equal x y true t e = same-sound x y t
+compared-equal : (x y : List ℕ) (q : Bool) → same x y ≡ q → equalOf (cond q Equal Different) ≡ 1 → x ≡ y
+compared-equal x y true t e = same-true x y t
 compared-equal x y false t e = absurd (omega arith)
 
 module _ (l : Limit) (c : Choice) (one two : List ℕ) where
   pub table : Told (length one) (firstHigh one) (length two) (firstHigh two) (verdictOf l c one two)
   table =
       by-tests (length one) (firstHigh one) (length two) (firstHigh two) (ltb wordLimit (length one)) refl (ltb (firstHigh one) (length one)) refl
-      (ltb wordLimit (length two)) refl (ltb (firstHigh two) (length two)) refl (sameBytes (codeOf l c one) (codeOf l c two))
+      (ltb wordLimit (length two)) refl (ltb (firstHigh two) (length two)) refl (same (codeOf l c one) (codeOf l c two))
 
   -- so an answer that is the definition's is as `equal` promises
   pub answered : {r : Verdict} → r ≡ verdictOf l c one two → Answered l c one two r
@@ -67,7 +68,7 @@ module _ (l : Limit) (c : Choice) (one two : List ℕ) where
   both-taken x y = taken-passes 1 one _ x ∙ taken-passes 2 two _ y
 
   same-codes : Taken one → Taken two → codeOf l c one ≡ codeOf l c two → verdictOf l c one two ≡ Equal
-  same-codes x y e = both-taken x y ∙ rw (e, same-whole (codeOf l c two))
+  same-codes x y e = both-taken x y ∙ rw (e, same-refl (codeOf l c two))
 
   -- equal exactly when both are taken and have one code
   pub equal-exactly : (equalOf (verdictOf l c one two) ≡ 1) ↔ (Taken one × Taken two × (codeOf l c one ≡ codeOf l c two))

@@ -3,10 +3,11 @@
 -- `two-empty` of proofs/Table.antt what a comparison says.
 use Prim.Native.Nat.{ℕ}
 use mathlib.Core.Path.{_≡_}
-use mathlib.Core.List.{List, [], _∷_}
-use mathlib.Core.Bool.{Bool, true, false, cond, _&&_}
-use lib.Dec.{ltb, eqb}
+use mathlib.Core.List.{List}
+use mathlib.Core.Bool.{cond}
+use lib.Dec.{ltb}
 use lib.ListN.{length}
+use Rattle.windows.specs.Text.{same}
 use Rattle.encoder.specs.declared.Limit.{Limit}
 use Rattle.encoder.specs.Trim.{firstHigh}
 use Rattle.encoder.specs.Encode.{wordLimit}
@@ -17,19 +18,12 @@ use Rattle.equality.specs.Table.{Told}
 use Rattle.equality.specs.declared.Verdict.{Verdict}
 use Rattle.equality.specs.declared.Verdict.the-variants.{Equal, Different, TooLong, NotAscii}
 
--- the same bytes
-abbrev pub sameBytes : List ℕ → List ℕ → Bool
-sameBytes [] [] = true
-sameBytes [] (y ∷ ys) = false
-sameBytes (x ∷ xs) [] = false
-sameBytes (x ∷ xs) (y ∷ ys) = eqb x y && sameBytes xs ys
-
 -- a word's refusal, the first or the second word's by `which`, or what an accepted word gives
 abbrev pub unlessRefused : ℕ → List ℕ → Verdict → Verdict
 unlessRefused which w v = cond (ltb wordLimit (length w)) (TooLong which) (cond (ltb (firstHigh w) (length w)) (NotAscii which (firstHigh w)) v)
 
 abbrev pub compared : List ℕ → List ℕ → Verdict
-compared x y = cond (sameBytes x y) Equal Different
+compared x y = cond (same x y) Equal Different
 
 -- the answer: the first word is checked wholly before the second
 abbrev pub verdictOf : Limit → Choice → List ℕ → List ℕ → Verdict

@@ -7,7 +7,8 @@ use encoder::WORD_LIMIT;
 use encoder::chosen;
 ghost use mathlib.Core.Path.{_≡_};
 ghost use Rattle.encoder.specs.Chosen.{codeOf};
-ghost use Rattle.equality.specs.Equality.{sameBytes, compared, unlessRefused, Answered};
+ghost use Rattle.windows.specs.Text.{same};
+ghost use Rattle.equality.specs.Equality.{compared, unlessRefused, Answered};
 
 // A code of any accepted word has room here, whatever the limit.
 const CODE_ROOM: usize = 2 * WORD_LIMIT - 1;
@@ -21,7 +22,7 @@ pub enum Verdict {
 }
 
 fn same_bytes(x: &[u8], y: &[u8]) -> bool
-    ensures { λ r. ⌜ r ≡ sameBytes (now (x .entry)) (now (y .entry)) ⌝ }
+    ensures { λ r. ⌜ r ≡ same (now (x .entry)) (now (y .entry)) ⌝ }
 {
     if x.len() != y.len() {
         return false;

@@ -8,12 +8,12 @@ use borrow.Author.Needs.{needs}
 use denote.Ref.{now}
 use lib.ListN.{length, drop}
 use Rattle.equality.proofs.Bytes.{lengths-differ, same-turn, same-end}
-use Rattle.equality.specs.Equality.{sameBytes}
+use Rattle.windows.specs.Text.{same}
 use Rattle.equality.proofs.same_bytes.Statement.{statement}
 use Rattle.equality.proofs.same_bytes.Tie as tie
 
 abbrev Inv-loop : tie.InvT-loop
-Inv-loop x y i₀ i = (length x ≡ length y) × (sameBytes (drop i x) (drop i y) ≡ sameBytes x y)
+Inv-loop x y i₀ i = (length x ≡ length y) × (same (drop i x) (drop i y) ≡ same x y)
 
 abbrev μ-loop : tie.MeasureT-loop
 μ-loop x y i₀ i = length x - i

@@ -1,8 +1,12 @@
 -- `letters_g::is_ger` meets its contract: its expression is the condition. Assumes nothing.
-use mathlib.Core.Path.{refl}
+use mathlib.Core.Path.{_≡_, refl, sym, _∙_}
+use mathlib.Core.Bool.{Bool, true, _||_}
 use Rattle.rules.specs.Cond.{holds}
 use Rattle.letters_g.proofs.is_ger.Statement.{statement}
 use Rattle.letters_g.proofs.is_ger.Tie as tie
+
+first-yes : (a b : Bool) → a ≡ true → true ≡ (a || b)
+first-yes a b h = rw h refl
 
 pub is-ger-spec : {M : Type 1} → statement M
 unfolding holds
@@ -15,7 +19,7 @@ is-ger-spec =
     (λ c. refl) (λ c κs. tt)
     (λ c. refl) (λ c κs. tt)
     (λ c. refl) (λ c κs. tt)
-    (λ c. rw (← c .before .is-ger-first .ensures) (rw (c .if1 .taken) refl))
+    (λ c. first-yes _ _ (sym (c .before .is-ger-first .ensures) ∙ c .if1 .taken))
     (λ c.
     let d = c .before .before .before .before .before .before in
     let e = d .before .before .before .before in

@@ -2,7 +2,7 @@
 mod measure;
 mod report;
 
-use measure::{measure, Row};
+use measure::{measure, spent, Row};
 use oracle::{Oracle, NOT_AT_HAND};
 use std::fs;
 use std::io;
@@ -36,8 +36,9 @@ fn main() -> io::Result<()> {
             rows.push(measure(&oracle, list, words, limit));
         }
     }
-    println!("{}\n{}", report::table(&rows), report::targets(&rows));
-    let (_, gauges) = &lists[0];
+    let (gauges, middling, long) = (&lists[0].1, &lists[2].1, &lists[4].1);
+    let spent = spent(middling, long);
+    println!("{}\n{}\n\n{}", report::table(&rows), report::targets(&rows), report::spent(&spent));
     let page = Path::new(env!("CARGO_MANIFEST_DIR")).join("../../docs/BENCHMARKS.md");
-    fs::write(page, report::page(&rows, gauges))
+    fs::write(page, report::page(&rows, gauges, &spent))
 }

@@ -95,3 +95,36 @@ fn same_codes(oracle: &Oracle, words: &[String], limit: Option<usize>) {
         assert_eq!(got, Ok((expected.primary, expected.alternate)), "{word:?} under {limit:?}");
     }
 }
+
+/// What the port's time is spent on.
+pub struct Spent {
+    /// Nanoseconds a visit over words of 64 bytes with no limit.
+    pub visit: f64,
+    /// The same where one word comes again and again, so that the processor has learnt every branch of it.
+    pub learnt: f64,
+    /// Nanoseconds a word of 1,024 bytes takes before its first visit.
+    pub scans: f64,
+}
+
+pub fn spent(middling: &[String], long: &[String]) -> Spent {
+    let learnt = middling.iter().take(32).map(|word| a_visit(&vec![word.clone(); 2000])).collect();
+    Spent {
+        visit: a_visit(middling),
+        learnt: median(learnt),
+        // Limit 0 is full at once, so that nothing is visited.
+        scans: 1e9 / steady(&|words| port_pass(words, Some(0)), long),
+    }
+}
+
+/// Nanoseconds a visit with no limit.
+fn a_visit(words: &[String]) -> f64 {
+    let (mut primary, mut alternate) = ([0; CODE_ROOM], [0; CODE_ROOM]);
+    let visits: usize =
+        words.iter().map(|word| encode_into(word.as_bytes(), &mut primary, &mut alternate, None).visits).sum();
+    1e9 * words.len() as f64 / visits as f64 / steady(&|words| port_pass(words, None), words)
+}
+
+/// Words a second, the median of some passes.
+fn steady(pass: Pass, words: &[String]) -> f64 {
+    median((0..31).map(|_| rate(pass, words)).collect())
+}

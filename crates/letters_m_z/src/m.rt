@@ -10,17 +10,6 @@ ghost use Rattle.rules.specs.CasesMZ.{casesM, conditionM0};
 pub fn handle_m(w: &[u8], at: usize) -> Visit
     ensures { λ r. ⌜ r ≡ first casesM (upper (now (w .entry))) at plain ⌝ }
 {
-    if windows::ahead(w, at, 1, 1, b"BM") {
-        handle_m_before(w, at)
-    } else {
-        Visit::both(Add::One(b'M'), 0)
-    }
-}
-
-// M before a byte that some case asks for.
-fn handle_m_before(w: &[u8], at: usize) -> Visit
-    ensures { λ r. ⌜ r ≡ first casesM (upper (now (w .entry))) at plain ⌝ }
-{
     let over = rules::one_if(condition_m0(w, at));
     Visit::both(Add::One(b'M'), over)
 }

@@ -66,8 +66,9 @@ pub fn targets(rows: &[Row]) -> String {
 pub fn spent(spent: &Spent) -> String {
     format!(
         "A visit takes {:.1} ns over words of 64 bytes with no limit, and {:.1} ns where one word comes again and again, so that the \
-processor has learnt its branches. The difference, {:.0} % of the time, goes to branches that it guesses wrong, above all the jump \
-to the visited letter's rule: the next letter of a new name cannot be foreseen. What is left is the visit itself: the jump, the \
+processor has learnt its branches. The difference, {:.0} % of the time, is what a new name costs over a known one. It is put down \
+to branches that the processor guesses wrong, above all the jump to the visited letter's rule, since the next letter of a new name \
+cannot be foreseen; no counter of the processor was read. What is left is the visit itself: the jump, the \
 letter's tests, the bytes written and the tally. Before the first visit, trimming, the ASCII test, the mark's scan and the call \
 take {:.0} ns on a word of 1,024 bytes, most of what such a word costs under limit 4.",
         spent.visit,

@@ -1,5 +1,5 @@
--- The cases of a byte, as the arms of a match on it in either case: what the first case of its capital's row answers is the visit. A byte that is
--- a key of no row has the cases of the rest, and so has a place where no byte stands. Assumes nothing.
+-- The cases of a byte, as the arms of a match on it in either case: what the first case of its capital's row answers is the visit.
+-- A byte that is a key of no row has the cases of the rest, and so has a place where no byte stands. Assumes nothing.
 use Prim.Native.Char.{Char, code}
 use Prim.Native.Nat.{ℕ, _+_, _-_, _≤_}
 use Prim.Native.String.{String}

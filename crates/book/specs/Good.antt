@@ -1,0 +1,27 @@
+-- What a book may hold, in plain terms. The theorems over it are in proofs/Good.antt.
+use Prim.Native.Nat.{ℕ, _^_, _≤_, _<_}
+use mathlib.Core.Path.{_≡_}
+use mathlib.Core.List.{List, [], _∷_}
+use lib.ListN.{length}
+use Rattle.encoder.specs.Numbers.{wordLimit}
+use Rattle.encoder.specs.Trim.{firstHigh}
+use Rattle.book.specs.Book.{Header, Record, above}
+
+pub record GoodHeader (h : Header) : Type 0 where
+  pub format : h .format ≡ 1
+  pub edition : h .edition ≡ 1
+  pub cut : h .cut < 2 ^ 28
+
+-- a record whose station is at least `floor`, with a name that the encoder takes and any codes
+pub record GoodRecord (floor : ℕ) (r : Record) : Type 0 where
+  pub rises : floor ≤ r .station
+  pub station : r .station < 2 ^ 28
+  pub long : length (r .name) ≤ wordLimit
+  pub ascii : length (r .name) ≤ firstHigh (r .name)
+  pub primary : length (r .primary) < 2 ^ 28
+  pub alternate : length (r .alternate) < 2 ^ 28
+
+-- each above the one before
+pub data GoodRecords : ℕ → List Record → Type 0 where
+  none : {floor : ℕ} → GoodRecords floor []
+  more : {floor : ℕ} {r : Record} {rs : List Record} → GoodRecord floor r → GoodRecords (above r) rs → GoodRecords floor (r ∷ rs)

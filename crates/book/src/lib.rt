@@ -1,0 +1,327 @@
+// The station key book, read: a header and records, at a cursor or to the end.
+ghost use mathlib.Core.Path.{_≡_};
+ghost use Prim.Native.Nat.{_≤_};
+ghost use lib.ListN.{length, drop};
+ghost use Rattle.fields.specs.Got.{readBoth};
+ghost use Rattle.fields.specs.Field.{readNumber, readBytes, readText, faultIn, any};
+ghost use Rattle.fields.specs.Told.{valueAt, partAt, bytesAt};
+ghost use Rattle.book.specs.Book.{known, rising, nameLength, nameByte, readHeader, readRecord, readRecords, readBook};
+ghost use Rattle.book.specs.Told.{openedBy, codesAt, stepAt, nextOf, surveyed, wholeBy};
+use encoder::WORD_LIMIT;
+use fields::Part;
+use fields::Span;
+use fields::Value;
+
+// The formats and the rule editions that are known are those from 1 up to these.
+pub const FORMAT: u32 = 1;
+
+pub const EDITION: u32 = 1;
+
+// The cut is 0 for none, else the limit plus 1.
+pub struct Header {
+    pub format: u32,
+    pub edition: u32,
+    pub cut: u32,
+}
+
+// Where the next record begins, and the least station that it may have.
+pub struct Cursor {
+    pub at: usize,
+    pub floor: u32,
+}
+
+pub enum Opened {
+    Book { header: Header, first: Cursor },
+    Fault(u8),
+}
+
+pub enum Codes {
+    At {
+        primary: Span,
+        alternate: Span,
+        next: usize,
+    },
+    Fault(u8),
+}
+
+pub enum Step {
+    Record {
+        station: u32,
+        name: Span,
+        primary: Span,
+        alternate: Span,
+        next: Cursor,
+    },
+    End,
+    Fault(u8),
+}
+
+pub enum Survey {
+    All { count: usize, floor: u32 },
+    Fault(u8),
+}
+
+// A book that was read to its end; `floor` is the least station that a further record may have.
+pub enum Whole {
+    Book {
+        header: Header,
+        records: usize,
+        floor: u32,
+    },
+    Fault(u8),
+}
+
+// A format or an edition, of those from 1 to `most`.
+fn known_at(s: &[u8], at: usize, most: u32) -> Value
+    ensures { λ r. ⌜ r ≡ valueAt at (readNumber (known most) (drop at (now (s .entry)))) ⌝ }
+{
+    let found = fields::number_at(s, at);
+    match found {
+        Value::At { value, next } => {
+            if value == 0 {
+                return Value::Fault(7);
+            }
+            if most < value {
+                return Value::Fault(7);
+            }
+            Value::At { value, next }
+        }
+        Value::Fault(f) => Value::Fault(f),
+    }
+}
+
+// The header of a book, and a cursor at its first record.
+pub fn open(s: &[u8]) -> Opened
+    ensures { λ r. ⌜ r ≡ openedBy (readHeader (now (s .entry))) ⌝ }
+{
+    let first = known_at(s, 0, FORMAT);
+    match first {
+        Value::At {
+            value: format,
+            next: behind,
+        } => {
+            let second = known_at(s, behind, EDITION);
+            match second {
+                Value::At {
+                    value: edition,
+                    next: last,
+                } => {
+                    let third = fields::number_at(s, last);
+                    match third {
+                        Value::At { value: cut, next } => Opened::Book {
+                            header: Header {
+                                format,
+                                edition,
+                                cut,
+                            },
+                            first: Cursor { at: next, floor: 0 },
+                        },
+                        Value::Fault(f) => Opened::Fault(f),
+                    }
+                }
+                Value::Fault(f) => Opened::Fault(f),
+            }
+        }
+        Value::Fault(f) => Opened::Fault(f),
+    }
+}
+
+fn station_at(s: &[u8], at: usize, floor: u32) -> Value
+    ensures { λ r. ⌜ r ≡ valueAt at (readNumber (rising floor) (drop at (now (s .entry)))) ⌝ }
+{
+    let found = fields::number_at(s, at);
+    match found {
+        Value::At { value, next } => {
+            if value < floor {
+                return Value::Fault(8);
+            }
+            Value::At { value, next }
+        }
+        Value::Fault(f) => Value::Fault(f),
+    }
+}
+
+fn byte_fault(b: u8) -> u8
+    ensures { λ r. ⌜ r ≡ nameByte b ⌝ }
+{
+    if 128 <= b { 2 } else { 0 }
+}
+
+// The fault that the first bad byte of a name shows, or 0.
+fn run_fault(w: &[u8]) -> u8
+    ensures { λ r. ⌜ r ≡ faultIn nameByte (now (w .entry)) ⌝ }
+{
+    let mut i = 0;
+    while i < w.len() {
+        let fault = byte_fault(w[i]);
+        if fault != 0 {
+            return fault;
+        }
+        i += 1;
+    }
+    0
+}
+
+// The bytes of a name: a bad one is met before the end of the book.
+fn name_bytes(s: &[u8], start: usize, len: usize) -> Part
+    requires { ⌜ start ≤ length (now s) ⌝ }
+    ensures { λ r. ⌜ r ≡ bytesAt start (readBytes nameByte len (drop start (now (s .entry)))) ⌝ }
+{
+    let there = fields::least(len, s.len() - start);
+    let end = start + there;
+    let fault = run_fault(&s[start..end]);
+    if fault != 0 {
+        return Part::Fault(fault);
+    }
+    fields::bytes_at(s, start, len)
+}
+
+fn name_at(s: &[u8], at: usize) -> Part
+    ensures { λ r. ⌜ r ≡ partAt at (readText nameLength nameByte (drop at (now (s .entry)))) ⌝ }
+{
+    let long = fields::number_at(s, at);
+    match long {
+        Value::At { value, next } => {
+            let len = value as usize;
+            if WORD_LIMIT < len {
+                return Part::Fault(1);
+            }
+            name_bytes(s, next, len)
+        }
+        Value::Fault(f) => Part::Fault(f),
+    }
+}
+
+fn codes_at(s: &[u8], at: usize) -> Codes
+    ensures { λ r. ⌜ r ≡ codesAt at (readBoth (readText any any) (readText any any) (drop at (now (s .entry)))) ⌝ }
+{
+    let first = fields::text_at(s, at);
+    match first {
+        Part::At {
+            span: primary,
+            next: behind,
+        } => {
+            let second = fields::text_at(s, behind);
+            match second {
+                Part::At {
+                    span: alternate,
+                    next,
+                } => Codes::At {
+                    primary,
+                    alternate,
+                    next,
+                },
+                Part::Fault(f) => Codes::Fault(f),
+            }
+        }
+        Part::Fault(f) => Codes::Fault(f),
+    }
+}
+
+// The record at any place, whose station must be at least `floor`.
+pub fn record_at(s: &[u8], at: usize, floor: u32) -> Step
+    ensures { λ r. ⌜ r ≡ stepAt at (readRecord floor (drop at (now (s .entry)))) ⌝ }
+{
+    let first = station_at(s, at, floor);
+    match first {
+        Value::At {
+            value: station,
+            next: behind,
+        } => {
+            let second = name_at(s, behind);
+            match second {
+                Part::At {
+                    span: name,
+                    next: last,
+                } => {
+                    let third = codes_at(s, last);
+                    match third {
+                        Codes::At {
+                            primary,
+                            alternate,
+                            next,
+                        } => Step::Record {
+                            station,
+                            name,
+                            primary,
+                            alternate,
+                            next: Cursor {
+                                at: next,
+                                floor: station + 1,
+                            },
+                        },
+                        Codes::Fault(f) => Step::Fault(f),
+                    }
+                }
+                Part::Fault(f) => Step::Fault(f),
+            }
+        }
+        Value::Fault(f) => Step::Fault(f),
+    }
+}
+
+// The record at a cursor, and the cursor behind it.
+pub fn next(s: &[u8], c: Cursor) -> Step
+    ensures { λ r. ⌜ r ≡ nextOf (now (s .entry)) c ⌝ }
+{
+    let at = c.at;
+    let floor = c.floor;
+    if s.len() <= at {
+        return Step::End;
+    }
+    record_at(s, at, floor)
+}
+
+// All records from a place on: how many, and the least station behind them.
+pub fn records_from(s: &[u8], from: usize) -> Survey
+    ensures { λ r. ⌜ r ≡ surveyed 0 0 (readRecords 0 (drop from (now (s .entry)))) ⌝ }
+{
+    let mut at = from;
+    let mut floor: u32 = 0;
+    let mut count: usize = 0;
+    while at < s.len() {
+        let one = record_at(s, at, floor);
+        match one {
+            Step::Record {
+                station: _,
+                name: _,
+                primary: _,
+                alternate: _,
+                next,
+            } => {
+                at = next.at;
+                floor = next.floor;
+                count += 1;
+            }
+            Step::End => {
+                return Survey::Fault(6);
+            }
+            Step::Fault(f) => {
+                return Survey::Fault(f);
+            }
+        }
+    }
+    Survey::All { count, floor }
+}
+
+// Reads a whole book.
+pub fn read(s: &[u8]) -> Whole
+    ensures { λ r. ⌜ r ≡ wholeBy (readBook (now (s .entry))) ⌝ }
+{
+    let opened = open(s);
+    match opened {
+        Opened::Book { header, first } => {
+            let at = first.at;
+            let all = records_from(s, at);
+            match all {
+                Survey::All { count, floor } => Whole::Book {
+                    header,
+                    records: count,
+                    floor,
+                },
+                Survey::Fault(f) => Whole::Fault(f),
+            }
+        }
+        Opened::Fault(f) => Whole::Fault(f),
+    }
+}

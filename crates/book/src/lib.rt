@@ -71,18 +71,28 @@ pub enum Whole {
     Fault(u8),
 }
 
-// A format or an edition, of those from 1 to `most`.
+// 7 for a format or an edition that is not one of those from 1 to `most`, else 0.
+pub fn known_fault(value: u32, most: u32) -> u8
+    ensures { λ r. ⌜ r ≡ known most value ⌝ }
+{
+    if value == 0 {
+        return 7;
+    }
+    if most < value {
+        return 7;
+    }
+    0
+}
+
 fn known_at(s: &[u8], at: usize, most: u32) -> Value
     ensures { λ r. ⌜ r ≡ valueAt at (readNumber (known most) (drop at (now (s .entry)))) ⌝ }
 {
     let found = fields::number_at(s, at);
     match found {
         Value::At { value, next } => {
-            if value == 0 {
-                return Value::Fault(7);
-            }
-            if most < value {
-                return Value::Fault(7);
+            let fault = known_fault(value, most);
+            if fault != 0 {
+                return Value::Fault(fault);
             }
             Value::At { value, next }
         }

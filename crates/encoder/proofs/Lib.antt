@@ -7,6 +7,7 @@
 --     Table      `unchanged`: a refusal changes neither buffer
 --     Demand2    `accepted`, `walked`: demand 2
 --     Demand3    `unlimited`, `limited`, `limited-one`, `reaches`: demand 3
+--     Room       with room for any code neither buffer is too short
 --     Part       `chosen-code`: after an accepted call the part handed back is the chosen code
 --     NoChoice   no public function's promise leaves a choice
 pub mod High
@@ -17,5 +18,6 @@ pub mod Answers
 pub mod Table
 pub mod Demand2
 pub mod Demand3
+pub mod Room
 pub mod Part
 pub mod NoChoice

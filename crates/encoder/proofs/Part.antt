@@ -7,12 +7,13 @@ use borrow.Author.Tests.{le-leb}
 use lib.ListN.{length, drop, length-append}
 use lib.Seq.{take-append-seam}
 use Rattle.encoder.specs.declared.Limit.{Limit}
+use Rattle.encoder.specs.declared.Encoder.{Encoder}
 use Rattle.encoder.specs.declared.Choice.{Choice}
 use Rattle.encoder.specs.declared.Choice.the-variants.{Primary, Alternate}
 use Rattle.encoder.specs.declared.Answer.{Answer}
 use Rattle.encoder.specs.declared.Answer.the-variants.{Coded}
 use Rattle.encoder.specs.Trim.{trimmed}
-use Rattle.encoder.specs.Encode.{numberOf, primaryLength, alternateLength, primaryOf, alternateOf, filled, Encoded}
+use Rattle.encoder.specs.Encode.{encoderOf, numberOf, primaryLength, alternateLength, primaryOf, alternateOf, filled, Encoded}
 use Rattle.encoder.specs.Demand2.{Walked}
 use Rattle.encoder.specs.Chosen.{frontOf, chosenOf, codeOf}
 use Rattle.encoder.proofs.Demand2.{accepted, walked}
@@ -31,3 +32,8 @@ chosen-code {l} {w} {p} {a} {p′} {a′} {r} e c np na n q = go c (walked (acce
     go : (c : Choice) → Walked l w p a r p′ a′ → chosenOf c p′ np a′ na ≡ codeOf l c w
     go Primary x = rw (x .primary) (front-filled (primaryOf l (trimmed w)) p np (ap primaryLength (sym (x .answer) ∙ q)))
     go Alternate x = rw (x .alternate) (front-filled (alternateOf l (trimmed w)) a na (ap alternateLength (sym (x .answer) ∙ q)))
+
+-- and of a call of the encoder x that was made with the limit l
+pub part-is : {x : Encoder} {l : Limit} {w p a p′ a′ part : List ℕ} {r : Answer} → x ≡ encoderOf l → Encoded (x .limit) w p a r p′ a′
+    → (c : Choice) (np na n : ℕ) → r ≡ Coded np na n → part ≡ chosenOf c p′ np a′ na → part ≡ codeOf l c w
+part-is {w = w} made e c np na n q f = f ∙ chosen-code e c np na n q ∙ ap (λ (x : Encoder). codeOf (x .limit) c w) made

@@ -5,6 +5,7 @@
 --     Told       from answers to readings and back
 --     Stays      what is shown does not change with what stands behind it
 --     Faults     which faults a reading can give
+--     Put        bytes put one behind the other
 --     NoChoice   no public function's promise leaves a choice
 pub mod Law
 pub mod Field
@@ -12,4 +13,5 @@ pub mod All
 pub mod Told
 pub mod Stays
 pub mod Faults
+pub mod Put
 pub mod NoChoice

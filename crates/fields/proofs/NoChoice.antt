@@ -1,5 +1,5 @@
--- No public function's promise leaves a choice: for the same arguments, any two results that it admits are equal. Of the part that
--- `bytes_of` hands back, its bytes. Assumes nothing.
+-- No public function's promise leaves a choice: for the same arguments, any two results that it admits are equal, and so is the
+-- lent room at exit. Of the part that `bytes_of` hands back, its bytes. Assumes nothing.
 use mathlib.Core.Path.{_≡_, sym, _∙_}
 use borrow.Fn.Kinds.{Dens, resT, endedOf}
 use denote.Ref.{now}
@@ -17,6 +17,12 @@ use Rattle.fields.proofs.bytes_at.Kinds as bytes-at-kinds
 use Rattle.fields.proofs.bytes_at.Reads as bytes-at
 use Rattle.fields.proofs.text_at.Kinds as text-at-kinds
 use Rattle.fields.proofs.text_at.Reads as text-at
+use Rattle.fields.proofs.text_size.Kinds as text-size-kinds
+use Rattle.fields.proofs.text_size.Reads as text-size
+use Rattle.fields.proofs.put_number.Kinds as put-number-kinds
+use Rattle.fields.proofs.put_number.Reads as put-number
+use Rattle.fields.proofs.put_text.Kinds as put-text-kinds
+use Rattle.fields.proofs.put_text.Reads as put-text
 use contract.Lifetimes.{Lfts}
 
 pub one-least : OneResult least-kinds.ps least-kinds.r least.Post
@@ -37,3 +43,21 @@ one-text-at κs a x y s t p q = p ∙ sym q
 module _ (κs : Lfts 1) (a : Dens κs bytes-of-kinds.ps) (x y : resT bytes-of-kinds.r κs .Denot) (s t : AtExit (endedOf 1 bytes-of-kinds.ps bytes-of-kinds.r) κs) where
   pub one-bytes-of : bytes-of.Post κs a x s → bytes-of.Post κs a y t → now x ≡ now y
   one-bytes-of p q = p ∙ sym q
+
+pub one-text-size : OneResult text-size-kinds.ps text-size-kinds.r text-size.Post
+one-text-size κs a x y s t p q = p ∙ sym q
+
+pub one-put-number : OneResult put-number-kinds.ps put-number-kinds.r put-number.Post
+one-put-number κs a x y s t p q = p .next ∙ sym (q .next)
+
+pub one-put-text : OneResult put-text-kinds.ps put-text-kinds.r put-text.Post
+one-put-text κs a x y s t p q = p .next ∙ sym (q .next)
+
+-- the room at exit is the first
+module _ (κs : Lfts 1) (a : Dens κs put-number-kinds.ps) (x y : resT put-number-kinds.r κs .Denot) (s t : AtExit (endedOf 1 put-number-kinds.ps put-number-kinds.r) κs) where
+  pub one-number-room : put-number.Post κs a x s → put-number.Post κs a y t → now (s .0) ≡ now (t .0)
+  one-number-room p q = p .leaves ∙ sym (q .leaves)
+
+module _ (κs : Lfts 2) (a : Dens κs put-text-kinds.ps) (x y : resT put-text-kinds.r κs .Denot) (s t : AtExit (endedOf 2 put-text-kinds.ps put-text-kinds.r) κs) where
+  pub one-text-room : put-text.Post κs a x s → put-text.Post κs a y t → now (s .0) ≡ now (t .0)
+  one-text-room p q = p .leaves ∙ sym (q .leaves)

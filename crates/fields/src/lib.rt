@@ -1,8 +1,10 @@
-// The fields of a book, read at a place: a number, and a text behind its length. Every function takes any place and any part.
+// The fields of a book, a number and a text behind its length: read at any place, and put where there is room.
 ghost use mathlib.Core.Path.{_≡_};
-ghost use Prim.Native.Nat.{_-_, min};
+ghost use Prim.Native.Nat.{_+_, _-_, _^_, _≤_, _<_, min};
 ghost use lib.ListN.{length, drop};
-ghost use Rattle.fields.specs.Field.{readNumber, readBytes, readText, any};
+ghost use lib.Seq.{sets};
+ghost use Rattle.fields.specs.Field.{number, text, readNumber, readBytes, readText, any};
+ghost use Rattle.fields.specs.Put.{Put};
 ghost use Rattle.fields.specs.Told.{valueAt, partAt, bytesAt, within};
 
 pub enum Value {
@@ -87,4 +89,43 @@ pub fn text_at(s: &[u8], at: usize) -> Part
         Value::At { value, next } => bytes_at(s, next, value as usize),
         Value::Fault(f) => Part::Fault(f),
     }
+}
+
+// Copies `src` to `at`.
+fn copy_to(out: &mut [u8], at: usize, src: &[u8])
+    requires { ⌜ at + length (now src) ≤ length (now out) ⌝ }
+    ensures { λ _. ⌜ now (out .exit) ≡ sets (now (out .entry)) at (now (src .entry)) ⌝ }
+{
+    let mut i = 0;
+    while i < src.len() {
+        out[at + i] = src[i];
+        i += 1;
+    }
+}
+
+// Puts a number at a place, and gives the place behind it.
+pub fn put_number(out: &mut [u8], at: usize, x: u32) -> usize
+    requires { ⌜ (x < 2 ^ 28) × (at + length (number x) ≤ length (now out)) ⌝ }
+    ensures { λ r. ⌜ Put (now (out .entry)) at (number x) r (now (out .exit)) ⌝ }
+{
+    number::write_number(out, at, x);
+    at + number::width(x)
+}
+
+// Puts a text's length and its bytes.
+pub fn put_text(out: &mut [u8], at: usize, t: &[u8]) -> usize
+    requires { ⌜ (length (now t) < 2 ^ 28) × (at + length (text (now t)) ≤ length (now out)) ⌝ }
+    ensures { λ r. ⌜ Put (now (out .entry)) at (text (now (t .entry))) r (now (out .exit)) ⌝ }
+{
+    let body = put_number(out, at, t.len() as u32);
+    copy_to(out, body, t);
+    body + t.len()
+}
+
+// How many bytes a text takes.
+pub fn text_size(t: &[u8]) -> usize
+    requires { ⌜ length (now t) < 2 ^ 28 ⌝ }
+    ensures { λ r. ⌜ r ≡ length (text (now (t .entry))) ⌝ }
+{
+    number::width(t.len() as u32) + t.len()
 }

@@ -9,7 +9,9 @@ use Rattle.equality.specs.declared.Verdict.the-variants.{Equal, Differen
 use Rattle.encoder.specs.Encode.{numberOf}
 use Rattle.encoder.specs.Chosen.{codeOf}
 use Rattle.equality.specs.Equality.{unlessRefused, compared}
-use Rattle.equality.proofs.Asked.{told, never-three, never-four, part-is, compared-is}
+use Rattle.encoder.proofs.Room.{never-three, never-four}
+use Rattle.encoder.proofs.Part.{part-is}
+use Rattle.equality.proofs.Asked.{told, compared-is}
 use Rattle.equality.proofs.against.Statement.{statement}
 use Rattle.equality.proofs.against.Tie as tie
 

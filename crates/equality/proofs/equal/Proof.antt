@@ -9,7 +9,9 @@ use Rattle.encoder.specs.declared.Answer.the-variants as said
 use Rattle.encoder.specs.Encode.{numberOf}
 use Rattle.encoder.specs.Chosen.{codeOf}
 use Rattle.equality.specs.Equality.{unlessRefused, compared}
-use Rattle.equality.proofs.Asked.{told, never-three, never-four, part-is}
+use Rattle.encoder.proofs.Room.{never-three, never-four}
+use Rattle.encoder.proofs.Part.{part-is}
+use Rattle.equality.proofs.Asked.{told}
 use Rattle.equality.proofs.Table.{answered}
 use Rattle.equality.proofs.equal.Statement.{statement}
 use Rattle.equality.proofs.equal.Tie as tie

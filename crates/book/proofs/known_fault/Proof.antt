@@ -1,0 +1,13 @@
+-- `book::known_fault` meets its contract. Assumes nothing.
+use mathlib.Core.Path.{sym}
+use Rattle.book.proofs.Told.{known-zero, known-above, known-good}
+use Rattle.book.proofs.known_fault.Statement.{statement}
+use Rattle.book.proofs.known_fault.Tie as tie
+
+pub known-fault-spec : {M : Type 1} → statement M
+known-fault-spec =
+    tie.close
+    (tie.spec
+    (λ c. sym (known-zero _ _ (c .if1 .taken)))
+    (λ c. sym (known-above _ _ (c .before .if1 .left) (c .if2 .taken)))
+    (λ c. sym (known-good _ _ (c .before .if1 .left) (c .if2 .left))))

@@ -1,0 +1,66 @@
+-- What the encoder's answer to a name means for a new record: its faults 1 and 2, or its codes. Assumes nothing.
+use Prim.Native.Nat.{ℕ, _≤_}
+use mathlib.Core.Path.{_≡_, sym, ap, _∙_}
+use mathlib.Core.List.{List}
+use native.Mathlib.Omega.{arith}
+use borrow.Author.Tests.{lt-ltb, le-ltb}
+use lib.ListN.{length}
+use Rattle.encoder.specs.declared.Limit.{Limit}
+use Rattle.encoder.specs.declared.Choice.{Choice}
+use Rattle.encoder.specs.declared.Choice.the-variants.{Primary, Alternate}
+use Rattle.encoder.specs.declared.Encoder.{Encoder}
+use Rattle.encoder.specs.declared.Answer.{Answer}
+use Rattle.encoder.specs.declared.Answer.the-variants as said
+use Rattle.encoder.specs.Numbers.{wordLimit, numberOf}
+use Rattle.encoder.specs.Trim.{trimmed, firstHigh}
+use Rattle.encoder.specs.Encode.{encoderOf, Encoded}
+use Rattle.encoder.specs.Chosen.{chosenOf, codeOf}
+use Rattle.encoder.proofs.Trim.{trimmed-length}
+use Rattle.encoder.proofs.Codes.{primary-fits, alternate-fits}
+use Rattle.encoder.proofs.Room.{need-at-most}
+use Rattle.encoder.proofs.Part.{part-is}
+use Rattle.book.specs.Book.{recordBytes}
+use Rattle.writer.specs.declared.Made.{Made}
+use Rattle.writer.specs.Made.{limitOf, Placed, recordWith, keyed, stationFault, newFault, codeRoom}
+
+-- a code of an accepted name has room
+pub code-fits : (l : Limit) (c : Choice) (w : List ℕ) → length w ≤ wordLimit → length (codeOf l c w) ≤ codeRoom
+code-fits l Primary w h = omega (arith, primary-fits (trimmed w) l, need-at-most l (length (trimmed w)), trimmed-length w)
+code-fits l Alternate w h = omega (arith, alternate-fits (trimmed w) l, need-at-most l (length (trimmed w)), trimmed-length w)
+
+module _ {l : Limit} {w p a p′ a′ : List ℕ} {r : Answer} (e : Encoded l w p a r p′ a′) where
+  pub short-name : (np na n : ℕ) → r ≡ said.Coded np na n → length w ≤ wordLimit
+  short-name np na n q = e .given .accepted .0 (ap numberOf q) .0
+
+  module _ (floor station : ℕ) where
+    pub name-too-long : r ≡ said.TooLong → 1 ≡ newFault floor station w
+    name-too-long q = rw (lt-ltb wordLimit (length w) (e .given .one .0 (ap numberOf q)))
+
+    pub name-not-ascii : (at : ℕ) → r ≡ said.NotAscii at → 2 ≡ newFault floor station w
+    name-not-ascii at q =
+        let g = e .given .two .0 (ap numberOf q) in
+        rw (le-ltb wordLimit (length w) (g .0), lt-ltb (firstHigh w) (length w) (g .1))
+
+    pub name-taken : (np na n : ℕ) → r ≡ said.Coded np na n → stationFault floor station ≡ newFault floor station w
+    name-taken np na n q =
+        let g = e .given .accepted .0 (ap numberOf q) in
+        rw (le-ltb wordLimit (length w) (g .0), le-ltb (firstHigh w) (length w) (g .1))
+
+-- the codes that were made with the encoder x, under the cut
+module _ {x : Encoder} {l : Limit} {w p a p′ a′ cp ca : List ℕ} {r : Answer} (cut : ℕ) (made : x ≡ encoderOf l) (under : l ≡ limitOf cut) (e : Encoded (x .limit) w p a r p′ a′)
+    (np na n : ℕ) (q : r ≡ said.Coded np na n) (fp : cp ≡ chosenOf Primary p′ np a′ na) (fa : ca ≡ chosenOf Alternate p′ np a′ na) where
+  primary-is : cp ≡ codeOf (limitOf cut) Primary w
+  primary-is = part-is (made ∙ ap encoderOf under) e Primary np na n q fp
+
+  alternate-is : ca ≡ codeOf (limitOf cut) Alternate w
+  alternate-is = part-is (made ∙ ap encoderOf under) e Alternate np na n q fa
+
+  pub codes-fit : (length w ≤ wordLimit) × (length cp ≤ codeRoom) × (length ca ≤ codeRoom)
+  codes-fit =
+      let h : length w ≤ wordLimit = short-name e np na n q in
+      (h, rw primary-is (code-fits (limitOf cut) Primary w h), rw alternate-is (code-fits (limitOf cut) Alternate w h))
+
+  pub coded-placed : (floor station : ℕ) (room : List ℕ) (len : ℕ) (m : Made) (room′ : List ℕ) → Placed (stationFault floor station) room len (recordBytes (recordWith station w cp ca)) m room′
+      → Placed (newFault floor station w) room len (recordBytes (keyed cut station w)) m room′
+  unfolding keyed
+  coded-placed floor station room len m room′ y = rw (sym (name-taken e floor station np na n q), sym primary-is, sym alternate-is) y

@@ -1,0 +1,269 @@
+// The station key book, written in lent room: started, added to, and gone on with from a known good end. A refusal changes nothing.
+ghost use mathlib.Core.Path.{_≡_};
+ghost use Prim.Native.Nat.{_+_, _^_, _≤_, _<_};
+ghost use mathlib.Core.List.{_++_};
+ghost use lib.ListN.{length};
+ghost use Rattle.fields.specs.Field.{number, text};
+ghost use Rattle.fields.specs.Put.{Put};
+ghost use Rattle.book.specs.Book.{headerBytes, recordBytes};
+ghost use Rattle.encoder.specs.Numbers.{wordLimit};
+ghost use Rattle.writer.specs.Made.{cutOf, limitOf, Placed, newHeader, cutFault, recordWith, keyed, stationFault, newFault, codeRoom};
+ghost use Rattle.writer.specs.Ended.{readIn, endedIn, endFault, Appended, Added};
+use book::EDITION;
+use book::FORMAT;
+use book::Header;
+use book::Whole;
+use encoder::Answer;
+use encoder::Choice;
+use encoder::Encoder;
+use encoder::Limit;
+use encoder::WORD_LIMIT;
+use encoder::chosen;
+
+// A code of any accepted name has room here, whatever the limit.
+const CODE_ROOM: usize = 2 * WORD_LIMIT - 1;
+
+// The largest number that four groups hold.
+const LARGEST: u64 = 0x0fff_ffff;
+
+// The length of the book that was made.
+pub enum Made {
+    Length(usize),
+    Fault(u8),
+}
+
+// Where a good book ends, what its header says, and the least station that a further record may have.
+pub struct End {
+    pub header: Header,
+    pub len: usize,
+    pub floor: u32,
+}
+
+pub enum Ended {
+    At(End),
+    Fault(u8),
+}
+
+fn put_codes(out: &mut [u8], at: usize, primary: &[u8], alternate: &[u8]) -> usize
+    requires { ⌜
+        (length (now primary) < 2 ^ 28) × (length (now alternate) < 2 ^ 28)
+        × (at + length (text (now primary) ++ text (now alternate)) ≤ length (now out)) ⌝ }
+    ensures { λ r. ⌜ Put (now (out .entry)) at (text (now (primary .entry)) ++ text (now (alternate .entry))) r (now (out .exit)) ⌝ }
+{
+    let behind = fields::put_text(out, at, primary);
+    fields::put_text(out, behind, alternate)
+}
+
+fn put_record(
+    out: &mut [u8],
+    at: usize,
+    station: u32,
+    name: &[u8],
+    primary: &[u8],
+    alternate: &[u8],
+) -> usize
+    requires { ⌜
+        (station < 2 ^ 28) × (length (now name) < 2 ^ 28) × (length (now primary) < 2 ^ 28) × (length (now alternate) < 2 ^ 28)
+        × (at + length (recordBytes (recordWith station (now name) (now primary) (now alternate))) ≤ length (now out)) ⌝ }
+    ensures { λ r. ⌜ Put (now (out .entry)) at (recordBytes (recordWith station (now (name .entry)) (now (primary .entry)) (now (alternate .entry)))) r (now (out .exit)) ⌝ }
+{
+    let first = fields::put_number(out, at, station);
+    let second = fields::put_text(out, first, name);
+    put_codes(out, second, primary, alternate)
+}
+
+fn put_header(out: &mut [u8], at: usize, format: u32, edition: u32, cut: u32) -> usize
+    requires { ⌜
+        (format < 2 ^ 28) × (edition < 2 ^ 28) × (cut < 2 ^ 28)
+        × (at + (length (number format) + (length (number edition) + length (number cut))) ≤ length (now out)) ⌝ }
+    ensures { λ r. ⌜ Put (now (out .entry)) at (number format ++ (number edition ++ number cut)) r (now (out .exit)) ⌝ }
+{
+    let first = fields::put_number(out, at, format);
+    let second = fields::put_number(out, first, edition);
+    fields::put_number(out, second, cut)
+}
+
+// A new book under a cut that four groups hold.
+fn begin(room: &mut [u8], cut: u32) -> Made
+    requires { ⌜ cut < 2 ^ 28 ⌝ }
+    ensures { λ r. ⌜ Placed 0 (now (room .entry)) 0 (headerBytes (newHeader cut)) r (now (room .exit)) ⌝ }
+{
+    let size = number::width(FORMAT) + number::width(EDITION) + number::width(cut);
+    if room.len() < size {
+        return Made::Fault(9);
+    }
+    Made::Length(put_header(room, 0, FORMAT, EDITION, cut))
+}
+
+// A new book, with no records.
+pub fn start(room: &mut [u8], limit: Limit) -> Made
+    ensures { λ r. ⌜ Placed (cutFault (cutOf limit)) (now (room .entry)) 0 (headerBytes (newHeader (cutOf limit))) r (now (room .exit)) ⌝ }
+{
+    match limit {
+        Limit::Whole => begin(room, 0),
+        Limit::At(n) => {
+            if 0x0fff_fffe < n {
+                return Made::Fault(5);
+            }
+            begin(room, n as u32 + 1)
+        }
+    }
+}
+
+fn limit_of(cut: u32) -> Limit
+    ensures { λ r. ⌜ r ≡ limitOf cut ⌝ }
+{
+    if cut == 0 {
+        return Limit::Whole;
+    }
+    Limit::At((cut - 1) as usize)
+}
+
+// How many bytes a record takes.
+fn record_size(station: u32, name: &[u8], primary: &[u8], alternate: &[u8]) -> usize
+    requires { ⌜ (length (now name) ≤ wordLimit) × (length (now primary) ≤ codeRoom) × (length (now alternate) ≤ codeRoom) ⌝ }
+    ensures { λ r. ⌜ r ≡ length (recordBytes (recordWith station (now (name .entry)) (now (primary .entry)) (now (alternate .entry)))) ⌝ }
+{
+    let front = number::width(station) + fields::text_size(name);
+    front + (fields::text_size(primary) + fields::text_size(alternate))
+}
+
+// Adds a record whose codes are made.
+fn append_coded(
+    room: &mut [u8],
+    len: usize,
+    floor: u32,
+    station: u64,
+    name: &[u8],
+    primary: &[u8],
+    alternate: &[u8],
+) -> Made
+    requires { ⌜ (len ≤ length (now room)) × (length (now name) ≤ wordLimit) × (length (now primary) ≤ codeRoom) × (length (now alternate) ≤ codeRoom) ⌝ }
+    ensures { λ r. ⌜
+        Placed (stationFault floor station) (now (room .entry)) len
+        (recordBytes (recordWith station (now (name .entry)) (now (primary .entry)) (now (alternate .entry)))) r (now (room .exit)) ⌝ }
+{
+    if LARGEST < station {
+        return Made::Fault(5);
+    }
+    let number = station as u32;
+    if number < floor {
+        return Made::Fault(8);
+    }
+    let size = record_size(number, name, primary, alternate);
+    if room.len() - len < size {
+        return Made::Fault(9);
+    }
+    Made::Length(put_record(room, len, number, name, primary, alternate))
+}
+
+// Adds a record to a book with this cut and this least station.
+fn append_under(
+    room: &mut [u8],
+    len: usize,
+    cut: u32,
+    floor: u32,
+    station: u64,
+    name: &[u8],
+) -> Made
+    requires { ⌜ len ≤ length (now room) ⌝ }
+    ensures { λ r. ⌜
+        Placed (newFault floor station (now (name .entry))) (now (room .entry)) len
+        (recordBytes (keyed cut station (now (name .entry)))) r (now (room .exit)) ⌝ }
+{
+    let mut primary = [0u8; CODE_ROOM];
+    let mut alternate = [0u8; CODE_ROOM];
+    match Encoder::new(limit_of(cut)).encode(name, &mut primary, &mut alternate) {
+        Answer::Coded {
+            primary: p,
+            alternate: a,
+            visits: _,
+        } => append_coded(
+            room,
+            len,
+            floor,
+            station,
+            name,
+            chosen(Choice::Primary, &primary, p, &alternate, a),
+            chosen(Choice::Alternate, &primary, p, &alternate, a),
+        ),
+        Answer::TooLong => Made::Fault(1),
+        Answer::NotAscii(_) => Made::Fault(2),
+        Answer::PrimaryShort => Made::Fault(9),
+        Answer::AlternateShort => Made::Fault(9),
+    }
+}
+
+// 7 for a format or an edition that is not known, then 6 for a book that ends behind the room; else 0.
+fn end_fault(end: End, room: usize) -> u8
+    ensures { λ r. ⌜ r ≡ endFault end room ⌝ }
+{
+    let header = end.header;
+    let format = book::known_fault(header.format, FORMAT);
+    if format != 0 {
+        return format;
+    }
+    let edition = book::known_fault(header.edition, EDITION);
+    if edition != 0 {
+        return edition;
+    }
+    if room < end.len { 6 } else { 0 }
+}
+
+// Adds a record behind a known good end, and gives the new end. The book before it is not read again.
+pub fn append(room: &mut [u8], end: End, station: u64, name: &[u8]) -> Ended
+    ensures { λ r. ⌜ Appended (now (room .entry)) end station (now (name .entry)) r (now (room .exit)) ⌝ }
+{
+    let fault = end_fault(end, room.len());
+    if fault != 0 {
+        return Ended::Fault(fault);
+    }
+    let header = end.header;
+    let made = append_under(room, end.len, header.cut, end.floor, station, name);
+    match made {
+        Made::Length(len) => Ended::At(End {
+            header,
+            len,
+            floor: station as u32 + 1,
+        }),
+        Made::Fault(f) => Ended::Fault(f),
+    }
+}
+
+// The end of the book in the first `len` bytes of the room, which are read. A stated length beyond the room is a short book.
+pub fn end_of(room: &[u8], len: usize) -> Ended
+    ensures { λ r. ⌜ r ≡ endedIn len (readIn (now (room .entry)) len) ⌝ }
+{
+    let there = fields::least(len, room.len());
+    let whole = book::read(&room[..there]);
+    match whole {
+        Whole::Book {
+            header,
+            records: _,
+            floor,
+        } => {
+            if room.len() < len {
+                return Ended::Fault(6);
+            }
+            Ended::At(End { header, len, floor })
+        }
+        Whole::Fault(f) => Ended::Fault(f),
+    }
+}
+
+// Adds a record to the book in the first `len` bytes of the room, which are read first.
+pub fn add(room: &mut [u8], len: usize, station: u64, name: &[u8]) -> Made
+    ensures { λ r. ⌜ Added (now (room .entry)) len station (now (name .entry)) r (now (room .exit)) ⌝ }
+{
+    let found = end_of(room, len);
+    match found {
+        Ended::At(end) => {
+            let grown = append(room, end, station, name);
+            match grown {
+                Ended::At(next) => Made::Length(next.len),
+                Ended::Fault(f) => Made::Fault(f),
+            }
+        }
+        Ended::Fault(f) => Made::Fault(f),
+    }
+}

@@ -1,5 +1,7 @@
-// The C face: the encoder and the equality question for hosts, on numbers and byte slices only. A slice is a pointer and a length;
-// answers go to arrays that the caller lends, so that nothing is returned by value.
+// The C face: the encoder, the equality question and the station key book (books.rt) for hosts, on numbers and byte slices only. A
+// slice is a pointer and a length; answers go to arrays that the caller lends, so that nothing is returned by value.
+mod books;
+
 use encoder::Answer;
 use encoder::Choice;
 use encoder::Encoder;
@@ -12,7 +14,7 @@ ghost use Rattle.equality.specs.Equality.{verdictOf};
 ghost use Rattle.simmerquilt.specs.Face.{limitOf, choiceOf, answerNumbers, verdictNumbers};
 
 // `limit` counts where `limited` is true.
-fn limit_of(limited: bool, limit: u64) -> Limit
+pub fn limit_of(limited: bool, limit: u64) -> Limit
     ensures { λ r. ⌜ r ≡ limitOf limited limit ⌝ }
 {
     if limited {

@@ -1,0 +1,15 @@
+-- `simmerquilt::books::tell_ended` meets its contract: each arm writes the numbers of its case. Assumes nothing.
+use borrow.Author.Needs.{needs}
+use Rattle.simmerquilt.proofs.books.tell_ended.Statement.{statement}
+use Rattle.simmerquilt.proofs.books.tell_ended.Tie as tie
+
+pub tell-ended-spec : {M : Type 1} → statement M
+tell-ended-spec =
+    tie.close
+    (tie.spec
+    (λ c. search needs)
+    (λ c. search needs)
+    (λ c. search needs)
+    (λ c. search needs)
+    (λ c. rw (c .before .before .before .ended .given .1))
+    (λ c. rw (c .before .before .ended2 .given .1)))

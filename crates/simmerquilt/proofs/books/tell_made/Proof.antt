@@ -1,0 +1,14 @@
+-- `simmerquilt::books::tell_made` meets its contract: each arm writes the numbers of its case. Assumes nothing.
+use borrow.Author.Needs.{needs}
+use Rattle.simmerquilt.proofs.books.tell_made.Statement.{statement}
+use Rattle.simmerquilt.proofs.books.tell_made.Tie as tie
+
+pub tell-made-spec : {M : Type 1} → statement M
+tell-made-spec =
+    tie.close
+    (tie.spec
+    (λ c. search needs)
+    (λ c. search needs)
+    (λ c. search needs)
+    (λ c. rw (c .before .before .made .given .1))
+    (λ c. rw (c .before .before .made2 .given .1)))

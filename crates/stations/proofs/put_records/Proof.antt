@@ -1,5 +1,5 @@
 -- `stations::put_records` is safe and ends, since each record moves the cursor on, and not past the end. Assumes nothing.
-use Prim.Native.Nat.{ℕ, _≤_, _<_, _-_}
+use Prim.Native.Nat.{ℕ, _≤_, _-_}
 use mathlib.Core.Path.{_≡_, refl, sym, _∙_}
 use mathlib.Core.Bool.{Bool, true, false}
 use mathlib.Core.List.{List}
@@ -17,19 +17,12 @@ use Rattle.book.proofs.Walk.{Turn, turn}
 use Rattle.stations.proofs.put_records.Statement.{statement}
 use Rattle.stations.proofs.put_records.Tie as tie
 
--- a record is told only of a cursor that stands before the end
-record Moved (s : List ℕ) (c next : Cursor) : Type 0 where
-  before-end : c .at < length s
-  rises : c .at < next .at
-  within : next .at ≤ length s
-
-moved : (s : List ℕ) (c : Cursor) (v : ℕ) (sn sp sa : Span) (next : Cursor) → nextOf s c ≡ step.Record v sn sp sa next → Moved s c next
+-- a record is told only of a cursor before the end
+moved : (s : List ℕ) (c : Cursor) (v : ℕ) (sn sp sa : Span) (next : Cursor) → nextOf s c ≡ step.Record v sn sp sa next → Turn s (c .at) (c .floor) 0 next
 moved s c v sn sp sa next e = go (ltb (c .at) (length s)) refl
   where
-    go : (b : Bool) → ltb (c .at) (length s) ≡ b → Moved s c next
-    go true h =
-        let t : Turn s (c .at) (c .floor) 0 next = turn s (c .at) (c .floor) 0 (ltb-true _ _ h) v sn sp sa next (rw h at e) in
-        record { before-end = ltb-true _ _ h; rises = t .rises; within = t .within }
+    go : (b : Bool) → ltb (c .at) (length s) ≡ b → Turn s (c .at) (c .floor) 0 next
+    go true h = turn s (c .at) (c .floor) 0 (ltb-true _ _ h) v sn sp sa next (rw h at e)
     go false h =
         let n : step.End ≡ step.Record v sn sp sa next = rw h at e in
         let z : _≡_ {A = ℕ} 0 1 = cc in
@@ -58,20 +51,20 @@ returns c = search needs
 
 add-count : tie.Need-add-count Inv-loop μ-loop
 add-count c =
-    let l = c .before .before .before .before .before .before in
-    let m = moved (now (l .before .before .args .s)) (l .loop .cursor) _ _ _ _ _ (sym (c .before .before .before .before .before .next .ensures) ∙ c .before .before .before .step .given .1) in
+    let n = c .before .before .before .before .before in
+    let m = moved (now (n .before .before .before .args .s)) (n .before .loop .cursor) _ _ _ _ _ (sym (n .next .ensures) ∙ c .before .before .before .step .given .1) in
     omega arith
 
 loop-less : tie.Need-loop-less Inv-loop μ-loop
 loop-less c =
-    let l = c .before .before .before .before .before .before in
-    let m = moved (now (l .before .before .args .s)) (l .loop .cursor) _ _ _ _ _ (sym (c .before .before .before .before .before .next .ensures) ∙ c .before .before .before .step .given .1) in
+    let n = c .before .before .before .before .before in
+    let m = moved (now (n .before .before .before .args .s)) (n .before .loop .cursor) _ _ _ _ _ (sym (n .next .ensures) ∙ c .before .before .before .step .given .1) in
     omega arith
 
 loop-again : tie.Need-loop-again Inv-loop μ-loop
 loop-again c =
-    let l = c .before .before .before .before .before .before in
-    let m = moved (now (l .before .before .args .s)) (l .loop .cursor) _ _ _ _ _ (sym (c .before .before .before .before .before .next .ensures) ∙ c .before .before .before .step .given .1) in
+    let n = c .before .before .before .before .before in
+    let m = moved (now (n .before .before .before .args .s)) (n .before .loop .cursor) _ _ _ _ _ (sym (n .next .ensures) ∙ c .before .before .before .step .given .1) in
     omega arith
 
 enum-told : tie.Need-enum-told Inv-loop μ-loop

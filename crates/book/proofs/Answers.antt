@@ -1,11 +1,11 @@
 -- Every sequence of bytes is a book or shows one of six faults. Assumes nothing.
 use Prim.Native.Nat.{ℕ}
-use mathlib.Core.Path.{_≡_, refl, sym, ap, _∙_}
+use mathlib.Core.Path.{_≡_, refl, sym}
 use mathlib.Core.Bool.{Bool, true, false, cond}
 use mathlib.Core.List.{List}
 use native.Mathlib.Omega.{arith}
 use lib.Dec.{ltb, leb}
-use lib.ListN.{length, drop}
+use lib.ListN.{drop}
 use Rattle.number.specs.Septets.{Bytes}
 use Rattle.encoder.specs.Numbers.{wordLimit}
 use Rattle.fields.specs.Got.{Got, good, bad, readBoth}

@@ -1,6 +1,6 @@
 -- Which faults a reading can give. Assumes nothing.
 use Prim.Native.Nat.{ℕ, zero, suc, _-_}
-use mathlib.Core.Path.{_≡_, refl, sym, ap, _∙_}
+use mathlib.Core.Path.{_≡_, refl, sym}
 use mathlib.Core.Bool.{Bool, true, false, cond}
 use mathlib.Core.List.{List, [], _∷_}
 use native.Mathlib.Omega.{arith}
@@ -10,7 +10,7 @@ use lib.ListN.{length, take, drop}
 use Rattle.number.specs.declared.Found.{Found}
 use Rattle.number.specs.declared.Found.the-variants.{Number, Bad, Short}
 use Rattle.number.specs.Septets.{reads}
-use Rattle.fields.specs.Got.{Got, good, bad, Both, beside, before, readBoth, mapped, grown, further, readAll}
+use Rattle.fields.specs.Got.{Got, good, bad, beside, before, readBoth, mapped, grown, further, readAll}
 use Rattle.fields.specs.Field.{judged, readNumber, faultIn, readBytes, moved, bytesBehind, readText}
 
 -- each fault that the reading gives is one of P

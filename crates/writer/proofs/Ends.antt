@@ -20,7 +20,7 @@ use Rattle.writer.specs.declared.Ended.the-variants as ended
 use Rattle.writer.specs.declared.Made.{Made}
 use Rattle.writer.specs.declared.Made.the-variants.{Length, Fault}
 use Rattle.writer.specs.Made.{placed, left, Placed, keyed, newFault}
-use Rattle.writer.specs.Ended.{shortened, readIn, endOf, endedIn, first, endFault, placedAt, behind, Appended, addedBy, leftBy, Added, lengthOf}
+use Rattle.writer.specs.Ended.{shortened, readIn, endOf, endedIn, first, endFault, placedAt, behind, Appended, addedBy, Added, lengthOf}
 use Rattle.writer.proofs.Placed.{was-laid, sound}
 
 -- ---- the faults of an end

@@ -1,8 +1,7 @@
 -- `writer::add` meets its contract: it goes on from the end that `end_of` finds.
-use mathlib.Core.Path.{sym, ap, _∙_}
+use mathlib.Core.Path.{sym, _∙_}
 use borrow.Author.Needs.{needs}
 use denote.Ref.{now}
-use Rattle.writer.specs.Ended.{lengthOf}
 use Rattle.writer.proofs.Ends.{added, added-not}
 use Rattle.writer.proofs.add.Statement.{statement}
 use Rattle.writer.proofs.add.Tie as tie

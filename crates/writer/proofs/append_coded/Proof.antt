@@ -2,7 +2,6 @@
 use native.Mathlib.Omega.{arith}
 use borrow.Author.Needs.{needs}
 use denote.Ref.{now}
-use lib.ListN.{length}
 use Rattle.book.specs.Book.{recordBytes}
 use Rattle.writer.specs.Made.{recordWith, stationFault}
 use Rattle.writer.proofs.Placed.{placed-fault, placed-short, placed-good, too-large, too-low, no-fault}

@@ -26,20 +26,22 @@ pub struct Record<'a> {
 
 /// Goes through a book from byte to byte and stops at the first fault.
 pub struct Reader<'a> {
-    pub header: Header,
     book: &'a [u8],
     place: usize,
     before: Option<u32>,
 }
 
 impl<'a> Reader<'a> {
-    /// Reads the header.
-    pub fn open(book: &'a [u8]) -> Result<Self, Fault> {
-        let mut reader = Reader { header: Header { format: 0, edition: 0, cut: 0 }, book, place: 0, before: None };
-        reader.header.format = reader.one()?;
-        reader.header.edition = reader.one()?;
-        reader.header.cut = reader.number()?;
-        Ok(reader)
+    /// Reads the header; the records are still to come.
+    pub fn open(book: &'a [u8]) -> Result<(Header, Self), Fault> {
+        let mut reader = Reader::at(book, 0, None);
+        let header = Header { format: reader.one()?, edition: reader.one()?, cut: reader.number()? };
+        Ok((header, reader))
+    }
+
+    /// Begins at a place, where the record before has the given station.
+    pub fn at(book: &'a [u8], place: usize, before: Option<u32>) -> Self {
+        Reader { book, place, before }
     }
 
     /// Where the next record begins.
@@ -127,7 +129,7 @@ impl<'a> Iterator for Reader<'a> {
     type Item = Result<Record<'a>, Fault>;
 
     fn next(&mut self) -> Option<Self::Item> {
-        if self.place == self.book.len() {
+        if self.place >= self.book.len() {
             return None;
         }
         let record = self.record();
@@ -140,6 +142,6 @@ impl<'a> Iterator for Reader<'a> {
 
 /// The whole book, or the number of the fault that is met first.
 pub fn read(book: &[u8]) -> Result<(Header, Vec<Record<'_>>), Fault> {
-    let reader = Reader::open(book)?;
-    Ok((reader.header, reader.collect::<Result<_, _>>()?))
+    let (header, records) = Reader::open(book)?;
+    Ok((header, records.collect::<Result<_, _>>()?))
 }

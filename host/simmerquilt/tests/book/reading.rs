@@ -7,7 +7,7 @@ use simmerquilt::Book;
 use words::Rng;
 
 const BOOKS: usize = 3000;
-const DAMAGED_BOOKS: usize = 250;
+const DAMAGED_BOOKS: usize = 1000;
 const STRINGS: usize = 400_000;
 
 fn lists(seed: u64, count: usize, most: usize, name: fn(&mut Rng) -> Vec<u8>) -> impl Iterator<Item = List> {
@@ -133,6 +133,21 @@ fn codes_may_hold_any_bytes() {
     let book = Book::from_bytes(b"\x01\x01\x00\x07\x01a\x02\x80\xff\x01\x00".to_vec()).unwrap();
     let record = book.records().next().unwrap();
     assert_eq!((record.primary, record.alternate), (&[0x80, 0xff][..], &[0][..]));
+}
+
+#[test]
+fn codes_may_have_any_length() {
+    let mut rng = Rng::new(10, 0);
+    for length in [126, 127, 128, 2047, 2048, 16_383, 16_384, 100_000, 2_097_152] {
+        let mut bytes = vec![1, 1, 5, 7, 1, b'a'];
+        for length in [length, length / 2] {
+            plain::push_number(&mut bytes, length);
+            bytes.extend((0..length).map(|_| rng.byte()));
+        }
+        same_reading(&bytes);
+        same_reading(&bytes[..bytes.len() - 1]);
+        assert_eq!(Book::from_bytes(bytes).unwrap().records().next().unwrap().primary.len() as u64, length);
+    }
 }
 
 #[test]

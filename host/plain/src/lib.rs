@@ -1,4 +1,5 @@
-//! Station key books in plain Rust, written from the words of request L1 alone: the outside witness of the proved reader and writer.
+//! Station key books in plain Rust, written from the words of document 02, L1, alone: the outside witness of the proved reader and
+//! writer.
 //! It knows no encoder; who writes a book passes the codes in.
 mod read;
 mod write;
@@ -6,7 +7,7 @@ mod write;
 pub use read::{read, Header, Reader, Record};
 pub use write::{add, push_number, Writer};
 
-/// Why a book or a record is refused: the number of the request.
+/// Why a book or a record is refused: document 02's number.
 pub type Fault = u64;
 
 /// A name over [`NAME_LIMIT`] bytes.

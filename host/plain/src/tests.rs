@@ -1,4 +1,4 @@
-//! Books written out byte by byte from the request's words.
+//! Books written out byte by byte from document 02's words.
 use super::*;
 
 /// No encoder is needed to tell how a book is laid out.

@@ -123,7 +123,7 @@ impl Book {
 
     /// Writes the book to a file, in place of what it held. The file has the old bytes or the new ones, and never half a book, also
     /// where the machine stops halfway. Under an error it has the old ones, but where only the last step failed, which is to have the
-    /// folder written to the disk.
+    /// folder written to the disk. The name then stands for a new file: a link is replaced, and the old file's rights are not kept.
     pub fn save(&self, path: impl AsRef<Path>) -> io::Result<()> {
         file::replace(path.as_ref(), self.as_bytes())
     }

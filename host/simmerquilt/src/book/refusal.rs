@@ -22,7 +22,7 @@ pub enum BookRefusal {
 }
 
 impl BookRefusal {
-    /// The number of the request and of the C header.
+    /// Its number in document 02 and in the C header.
     pub const fn number(self) -> u64 {
         match self {
             BookRefusal::NameTooLong => 1,

@@ -2,6 +2,7 @@
 mod adding;
 mod draw;
 mod files;
+mod growing;
 mod reading;
 mod stored;
 mod witness;

@@ -1,6 +1,7 @@
-//! Station key books in plain Rust, written from the words of document 02, L1, alone: the outside witness of the proved reader and
-//! writer.
-//! It knows no encoder; who writes a book passes the codes in.
+//! Station key books in plain Rust, written from the words of document 02, L1, and not from the proved code or its definition: the
+//! outside witness of the proved reader and writer. It knows no encoder; who writes a book passes the codes in.
+//!
+//! L1 does not say which of two faults comes first that one byte shows. Here, as in the library, a number's form comes before its value.
 mod read;
 mod write;
 

@@ -3,7 +3,7 @@
  * A word is bytes. Bytes 9 to 13 and 32 are trimmed at both ends, and a to z count as A to Z. Each code lies at the front of
  * the buffer that the caller lends for it; there is no byte 0 behind it.
  *
- * Both functions take anything: every word, every length, every limit gets an answer, nothing is allocated, and nothing is
+ * The functions take anything: every word, every length, every limit gets an answer, nothing is allocated, and nothing is
  * kept. The caller sees to it that a pointer has its length behind it, and that what is written lies apart from everything
  * else that is lent. A pointer with length 0 is not followed.
  *
@@ -80,6 +80,145 @@ void simmerquilt_equal(const uint8_t *first, size_t first_length,
                        bool limited, uint64_t limit,
                        bool alternate,
                        uint64_t answer[SIMMERQUILT_EQUAL_COUNT]);
+
+/* The station key book: a header and records, in bytes that the caller keeps.
+ *
+ * A number is written in groups of seven bits, low group first; the high bit of a byte says that more follow. Only the shortest
+ * form is good, at most four groups. The header is the format, 1, the rule edition, 1, and the cut: 0 for no limit, else the
+ * limit plus 1. A record is the station, the name's length and the name, the primary code's length and the code, and the same
+ * of the alternate code. Stations rise strictly. A name is stored as it is lent, untrimmed; its codes are those that
+ * simmerquilt_encode gives under the header's cut.
+ *
+ * The room, the name and the answer must lie apart from each other. A refusal writes nothing but the answer, whose other numbers
+ * are then 0. Bytes behind the new end of a book keep what they held.
+ *
+ * No.  given exactly when
+ * 0    none of the others
+ * 1    a name is over 1,024 bytes; in a book this is met at the name's length
+ * 2    some byte of a name is 128 or more
+ * 5    a number is in a bad form or needs more than four groups
+ * 6    the book ends inside something
+ * 7    the format or the edition is not known
+ * 8    a station is not above the one before
+ * 9    the lent room is too short for the result
+ *
+ * In a book the fault that is met first is given, from byte to byte: a number is judged when it is whole, its form before its
+ * value, and 6 is met at the end. A stored code may hold any bytes. A new record is tested for 1, 2, 5, 8 and 9 in this order.
+ */
+enum {
+    SIMMERQUILT_BAD_NUMBER = 5,
+    SIMMERQUILT_CUT_SHORT = 6,
+    SIMMERQUILT_UNKNOWN = 7,
+    SIMMERQUILT_NOT_RISING = 8,
+    SIMMERQUILT_ROOM_SHORT = 9
+};
+
+enum {
+    /* The first number that four groups do not hold; stations and cuts are below it. */
+    SIMMERQUILT_NUMBER_END = 268435456,
+    /* The format and the edition of a new book. */
+    SIMMERQUILT_FORMAT = 1,
+    SIMMERQUILT_EDITION = 1,
+    /* A room of this length is never too short for a new book. */
+    SIMMERQUILT_HEADER_ROOM = 6,
+    /* So many bytes behind a book are never too few for one more record. */
+    SIMMERQUILT_RECORD_ROOM = 5128
+};
+
+/* Where each number stands in the answer of simmerquilt_book_start and of simmerquilt_book_add. */
+enum {
+    SIMMERQUILT_BOOK_NUMBER,
+    SIMMERQUILT_BOOK_LENGTH,
+    SIMMERQUILT_BOOK_COUNT
+};
+
+/* Writes a book without records to the front of the room. The answer is the number (0, 5 or 9) and the book's length. */
+void simmerquilt_book_start(uint8_t *room, size_t room_length,
+                            bool limited, uint64_t limit,
+                            uint64_t answer[SIMMERQUILT_BOOK_COUNT]);
+
+/* Where each number stands in the answer of simmerquilt_book_open. */
+enum {
+    SIMMERQUILT_OPEN_NUMBER,
+    SIMMERQUILT_OPEN_FORMAT,
+    SIMMERQUILT_OPEN_EDITION,
+    SIMMERQUILT_OPEN_CUT,
+    SIMMERQUILT_OPEN_PLACE,
+    SIMMERQUILT_OPEN_FLOOR,
+    SIMMERQUILT_OPEN_COUNT
+};
+
+/* Reads a book's header. The answer is the number (0, 5, 6 or 7), the header, and the cursor of the first record: the place where
+ * it begins and the least station that it may have. */
+void simmerquilt_book_open(const uint8_t *book, size_t book_length,
+                           uint64_t answer[SIMMERQUILT_OPEN_COUNT]);
+
+/* Where each number stands in the answer of simmerquilt_book_next. */
+enum {
+    SIMMERQUILT_NEXT_NUMBER,
+    SIMMERQUILT_NEXT_FOUND,
+    SIMMERQUILT_NEXT_STATION,
+    SIMMERQUILT_NEXT_NAME_START,
+    SIMMERQUILT_NEXT_NAME_LENGTH,
+    SIMMERQUILT_NEXT_PRIMARY_START,
+    SIMMERQUILT_NEXT_PRIMARY_LENGTH,
+    SIMMERQUILT_NEXT_ALTERNATE_START,
+    SIMMERQUILT_NEXT_ALTERNATE_LENGTH,
+    SIMMERQUILT_NEXT_PLACE,
+    SIMMERQUILT_NEXT_FLOOR,
+    SIMMERQUILT_NEXT_COUNT
+};
+
+/* Reads the record at a cursor. The answer is the number (0, 1, 2, 5, 6 or 8), 1 for a record found, else 0, the record, with where
+ * in the book each text starts and how long it is, and the cursor of the record behind it. At the end of the book and past it the
+ * number is 0, nothing is found, and all other numbers are 0. */
+void simmerquilt_book_next(const uint8_t *book, size_t book_length,
+                           uint64_t place, uint32_t floor,
+                           uint64_t answer[SIMMERQUILT_NEXT_COUNT]);
+
+/* Where each number stands in the answer of simmerquilt_book_read. */
+enum {
+    SIMMERQUILT_READ_NUMBER,
+    SIMMERQUILT_READ_FORMAT,
+    SIMMERQUILT_READ_EDITION,
+    SIMMERQUILT_READ_CUT,
+    SIMMERQUILT_READ_RECORDS,
+    SIMMERQUILT_READ_FLOOR,
+    SIMMERQUILT_READ_COUNT
+};
+
+/* Reads a whole book. The answer is the number (0, 1, 2 or 5 to 8), the header, how many records there are, and the least
+ * station that a further one may have. */
+void simmerquilt_book_read(const uint8_t *book, size_t book_length,
+                           uint64_t answer[SIMMERQUILT_READ_COUNT]);
+
+/* Adds a record to the book in the first `length` bytes of the room. The whole book is read first, and its fault is given; then
+ * the record is tested. Where the room has fewer bytes than `length`, those that are there are read, and if they show no fault
+ * the number is 6. The answer is the number (0, 1, 2 or 5 to 9) and the new length. */
+void simmerquilt_book_add(uint8_t *room, size_t room_length,
+                          uint64_t length,
+                          uint64_t station,
+                          const uint8_t *name, size_t name_length,
+                          uint64_t answer[SIMMERQUILT_BOOK_COUNT]);
+
+/* Where each number stands in the answer of simmerquilt_book_append. */
+enum {
+    SIMMERQUILT_APPEND_NUMBER,
+    SIMMERQUILT_APPEND_LENGTH,
+    SIMMERQUILT_APPEND_FLOOR,
+    SIMMERQUILT_APPEND_COUNT
+};
+
+/* Adds a record as simmerquilt_book_add does, but goes on from a known good end and does not read the book again: the header,
+ * the length and the floor are those that simmerquilt_book_read told of these bytes, or the append before. 7 is given for a format
+ * or an edition that is not known, then 6 for a length beyond the room; then the record is tested. The answer is the number
+ * (0, 1, 2 or 5 to 9), the new length and the new floor. */
+void simmerquilt_book_append(uint8_t *room, size_t room_length,
+                             uint32_t format, uint32_t edition, uint32_t cut,
+                             uint64_t length, uint32_t floor,
+                             uint64_t station,
+                             const uint8_t *name, size_t name_length,
+                             uint64_t answer[SIMMERQUILT_APPEND_COUNT]);
 
 #ifdef __cplusplus
 }

@@ -1,5 +1,5 @@
-/* Calls the library as a C program does: words with known keys, every refusal, and guard bytes around the buffers. It writes
- * nothing where all is as it should be. */
+/* Calls the library as a C program does: words with known keys, every refusal, guard bytes around the buffers, and a station key
+ * book that is started, added to and read. It writes nothing where all is as it should be. */
 #include "simmerquilt.h"
 
 #include <stdio.h>
@@ -115,10 +115,170 @@ static void nothing_lent(void) {
     expect(answered(answer, SIMMERQUILT_ACCEPTED, 0, 0, 0, 0), "nothing lent", "");
 }
 
+/* A book of two records under limit 4, and where its parts end. */
+#define HEADER "\x01\x01\x05"
+#define FIRST "\x07\x06jumped\x04JMPT\x04" "AMPT"
+#define SECOND "\xac\x02\x03Saj\x02SJ\x02S "
+enum { HEADER_END = 3, FIRST_END = 21, SECOND_END = 33, BOOK_ROOM = 48 };
+
+static const uint8_t *bytes(const char *text) { return (const uint8_t *)text; }
+
+/* Whether an answer has these numbers; under a refusal all but the first are 0. */
+static bool gives(const uint64_t *answer, const uint64_t *expected, size_t count) {
+    return memcmp(answer, expected, count * sizeof *answer) == 0;
+}
+
+/* Whether a room begins with this book and all its other bytes are held. */
+static bool room_holds(const uint8_t *room, const char *book, size_t length) {
+    uint8_t expected[BOOK_ROOM];
+    memset(expected, HELD, BOOK_ROOM);
+    memcpy(expected, book, length);
+    return memcmp(expected, room, BOOK_ROOM) == 0;
+}
+
+static void start(uint8_t *room, size_t length, bool limited, uint64_t limit, uint64_t number, uint64_t made) {
+    uint64_t expected[SIMMERQUILT_BOOK_COUNT] = {number, made};
+    uint64_t answer[SIMMERQUILT_BOOK_COUNT];
+    memset(room, HELD, BOOK_ROOM);
+    simmerquilt_book_start(room, length, limited, limit, answer);
+    expect(gives(answer, expected, SIMMERQUILT_BOOK_COUNT), "start", "a book");
+}
+
+static void add(uint8_t *room, size_t room_length, uint64_t length, uint64_t station, const char *name, uint64_t number,
+                uint64_t made) {
+    uint64_t expected[SIMMERQUILT_BOOK_COUNT] = {number, made};
+    uint64_t answer[SIMMERQUILT_BOOK_COUNT];
+    simmerquilt_book_add(room, room_length, length, station, bytes(name), strlen(name), answer);
+    expect(gives(answer, expected, SIMMERQUILT_BOOK_COUNT), "add", name);
+}
+
+static void append(uint8_t *room, size_t room_length, uint32_t edition, uint64_t length, uint32_t floor, uint64_t station,
+                   const char *name, uint64_t number, uint64_t made, uint64_t made_floor) {
+    uint64_t expected[SIMMERQUILT_APPEND_COUNT] = {number, made, made_floor};
+    uint64_t answer[SIMMERQUILT_APPEND_COUNT];
+    simmerquilt_book_append(room, room_length, SIMMERQUILT_FORMAT, edition, 5, length, floor, station, bytes(name), strlen(name),
+                            answer);
+    expect(gives(answer, expected, SIMMERQUILT_APPEND_COUNT), "append", name);
+}
+
+static void books_started(void) {
+    uint8_t room[BOOK_ROOM];
+    start(room, BOOK_ROOM, true, SIMMERQUILT_DEFAULT_LIMIT, SIMMERQUILT_ACCEPTED, HEADER_END);
+    expect(room_holds(room, HEADER, HEADER_END), "room", "a book at 4");
+    start(room, BOOK_ROOM, false, 9, SIMMERQUILT_ACCEPTED, HEADER_END);
+    expect(room_holds(room, "\x01\x01\x00", HEADER_END), "room", "a book without a limit");
+    start(room, SIMMERQUILT_HEADER_ROOM, true, SIMMERQUILT_NUMBER_END - 2, SIMMERQUILT_ACCEPTED, SIMMERQUILT_HEADER_ROOM);
+    expect(room_holds(room, "\x01\x01\xff\xff\xff\x7f", SIMMERQUILT_HEADER_ROOM), "room", "a book at the largest limit");
+    start(room, 0, true, SIMMERQUILT_NUMBER_END - 1, SIMMERQUILT_BAD_NUMBER, 0);
+    start(room, BOOK_ROOM, true, UINT64_MAX, SIMMERQUILT_BAD_NUMBER, 0);
+    start(room, HEADER_END - 1, true, 4, SIMMERQUILT_ROOM_SHORT, 0);
+    expect(room_holds(room, "", 0), "room under a refusal", "start");
+}
+
+/* Both ways make the same book, and a refusal leaves it. */
+static void books_added_to(void) {
+    static char longest[SIMMERQUILT_WORD_LIMIT + 2];
+    uint8_t room[BOOK_ROOM];
+    memset(longest, '\x80', SIMMERQUILT_WORD_LIMIT + 1);
+    start(room, BOOK_ROOM, true, 4, SIMMERQUILT_ACCEPTED, HEADER_END);
+    add(room, BOOK_ROOM, HEADER_END, 7, "jumped", SIMMERQUILT_ACCEPTED, FIRST_END);
+    add(room, BOOK_ROOM, FIRST_END, SIMMERQUILT_NUMBER_END, longest, SIMMERQUILT_TOO_LONG, 0);
+    add(room, BOOK_ROOM, FIRST_END, SIMMERQUILT_NUMBER_END, longest + 1, SIMMERQUILT_NOT_ASCII, 0);
+    add(room, BOOK_ROOM, FIRST_END, SIMMERQUILT_NUMBER_END, "Saj", SIMMERQUILT_BAD_NUMBER, 0);
+    add(room, FIRST_END, FIRST_END, 7, "Saj", SIMMERQUILT_NOT_RISING, 0);
+    add(room, SECOND_END - 1, FIRST_END, 300, "Saj", SIMMERQUILT_ROOM_SHORT, 0);
+    add(room, FIRST_END, FIRST_END - 1, 300, longest, SIMMERQUILT_CUT_SHORT, 0);
+    add(room, FIRST_END, UINT64_MAX, 300, "Saj", SIMMERQUILT_CUT_SHORT, 0);
+    expect(room_holds(room, HEADER FIRST, FIRST_END), "room", "one record");
+    add(room, SECOND_END, FIRST_END, 300, "Saj", SIMMERQUILT_ACCEPTED, SECOND_END);
+    expect(room_holds(room, HEADER FIRST SECOND, SECOND_END), "room", "two records added");
+
+    start(room, BOOK_ROOM, true, 4, SIMMERQUILT_ACCEPTED, HEADER_END);
+    append(room, BOOK_ROOM, SIMMERQUILT_EDITION, HEADER_END, 0, 7, "jumped", SIMMERQUILT_ACCEPTED, FIRST_END, 8);
+    append(room, 0, 2, FIRST_END, 8, 7, longest, SIMMERQUILT_UNKNOWN, 0, 0);
+    append(room, FIRST_END - 1, SIMMERQUILT_EDITION, FIRST_END, 8, 7, longest, SIMMERQUILT_CUT_SHORT, 0, 0);
+    append(room, FIRST_END, SIMMERQUILT_EDITION, FIRST_END, 8, 7, "Saj", SIMMERQUILT_NOT_RISING, 0, 0);
+    append(room, SECOND_END - 1, SIMMERQUILT_EDITION, FIRST_END, 8, 300, "Saj", SIMMERQUILT_ROOM_SHORT, 0, 0);
+    expect(room_holds(room, HEADER FIRST, FIRST_END), "room", "one record appended");
+    append(room, SECOND_END, SIMMERQUILT_EDITION, FIRST_END, 8, 300, "Saj", SIMMERQUILT_ACCEPTED, SECOND_END, 301);
+    expect(room_holds(room, HEADER FIRST SECOND, SECOND_END), "room", "two records appended");
+}
+
+static void whole(const char *book, size_t length, uint64_t number, uint64_t records, uint64_t floor) {
+    bool good = number == SIMMERQUILT_ACCEPTED;
+    uint64_t expected[SIMMERQUILT_READ_COUNT] = {number, good, good, good ? 5 : 0, records, floor};
+    uint64_t answer[SIMMERQUILT_READ_COUNT];
+    simmerquilt_book_read(bytes(book), length, answer);
+    expect(gives(answer, expected, SIMMERQUILT_READ_COUNT), "read", book);
+}
+
+static void opened(const char *book, size_t length, uint64_t number) {
+    bool good = number == SIMMERQUILT_ACCEPTED;
+    uint64_t expected[SIMMERQUILT_OPEN_COUNT] = {number, good, good, good ? 5 : 0, good ? HEADER_END : 0, 0};
+    uint64_t answer[SIMMERQUILT_OPEN_COUNT];
+    simmerquilt_book_open(bytes(book), length, answer);
+    expect(gives(answer, expected, SIMMERQUILT_OPEN_COUNT), "open", book);
+}
+
+static void next(size_t length, uint64_t place, uint32_t floor, const uint64_t expected[SIMMERQUILT_NEXT_COUNT]) {
+    uint64_t answer[SIMMERQUILT_NEXT_COUNT];
+    simmerquilt_book_next(bytes(HEADER FIRST SECOND), length, place, floor, answer);
+    expect(gives(answer, expected, SIMMERQUILT_NEXT_COUNT), "next", "two records");
+}
+
+static void books_read(void) {
+    static const uint64_t first[SIMMERQUILT_NEXT_COUNT] = {0, 1, 7, 5, 6, 12, 4, 17, 4, FIRST_END, 8};
+    static const uint64_t second[SIMMERQUILT_NEXT_COUNT] = {0, 1, 300, 24, 3, 28, 2, 31, 2, SECOND_END, 301};
+    static const uint64_t end[SIMMERQUILT_NEXT_COUNT] = {0};
+    static const uint64_t cut_short[SIMMERQUILT_NEXT_COUNT] = {SIMMERQUILT_CUT_SHORT};
+    static const uint64_t not_rising[SIMMERQUILT_NEXT_COUNT] = {SIMMERQUILT_NOT_RISING};
+    whole(HEADER FIRST SECOND, SECOND_END, SIMMERQUILT_ACCEPTED, 2, 301);
+    whole(HEADER, HEADER_END, SIMMERQUILT_ACCEPTED, 0, 0);
+    whole(HEADER FIRST SECOND, SECOND_END - 1, SIMMERQUILT_CUT_SHORT, 0, 0);
+    whole(HEADER FIRST FIRST, 2 * FIRST_END - HEADER_END, SIMMERQUILT_NOT_RISING, 0, 0);
+    whole(HEADER "\x07\x81\x08", 6, SIMMERQUILT_TOO_LONG, 0, 0);
+    whole(HEADER "\x07\x09\x80", 6, SIMMERQUILT_NOT_ASCII, 0, 0);
+
+    opened(HEADER FIRST, FIRST_END, SIMMERQUILT_ACCEPTED);
+    opened("\x02", 1, SIMMERQUILT_UNKNOWN);
+    opened("\x01\x81\x00", 3, SIMMERQUILT_BAD_NUMBER);
+    opened("\x01\x01", 2, SIMMERQUILT_CUT_SHORT);
+
+    next(SECOND_END, HEADER_END, 0, first);
+    next(SECOND_END, FIRST_END, 8, second);
+    next(SECOND_END, SECOND_END, 301, end);
+    next(SECOND_END, UINT64_MAX, 0, end);
+    next(SECOND_END - 1, FIRST_END, 8, cut_short);
+    next(SECOND_END, FIRST_END, 301, not_rising);
+}
+
+static void no_book_lent(void) {
+    static const uint64_t cut_short[SIMMERQUILT_READ_COUNT] = {SIMMERQUILT_CUT_SHORT};
+    static const uint64_t end[SIMMERQUILT_NEXT_COUNT] = {0};
+    static const uint64_t room_short[SIMMERQUILT_APPEND_COUNT] = {SIMMERQUILT_ROOM_SHORT};
+    uint64_t answer[SIMMERQUILT_NEXT_COUNT];
+    simmerquilt_book_start(NULL, 0, false, 0, answer);
+    expect(gives(answer, room_short, SIMMERQUILT_BOOK_COUNT), "no room", "start");
+    simmerquilt_book_open(NULL, 0, answer);
+    expect(gives(answer, cut_short, SIMMERQUILT_OPEN_COUNT), "no book", "open");
+    simmerquilt_book_next(NULL, 0, 0, 0, answer);
+    expect(gives(answer, end, SIMMERQUILT_NEXT_COUNT), "no book", "next");
+    simmerquilt_book_read(NULL, 0, answer);
+    expect(gives(answer, cut_short, SIMMERQUILT_READ_COUNT), "no book", "read");
+    simmerquilt_book_add(NULL, 0, 0, 0, NULL, 0, answer);
+    expect(gives(answer, cut_short, SIMMERQUILT_BOOK_COUNT), "no room", "add");
+    simmerquilt_book_append(NULL, 0, 1, 1, 0, 0, 0, 0, NULL, 0, answer);
+    expect(gives(answer, room_short, SIMMERQUILT_APPEND_COUNT), "no room", "append");
+}
+
 int main(void) {
     known_words();
     refusals();
     questions();
     nothing_lent();
+    books_started();
+    books_added_to();
+    books_read();
+    no_book_lent();
     return failures != 0;
 }

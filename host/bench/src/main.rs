@@ -1,4 +1,7 @@
-//! Times the proved port beside the unchanged Rust, in turns over the same words, prints a table and writes docs/BENCHMARKS.md.
+//! Times the proved port beside the unchanged Rust, in turns over the same words, and the station key book beside a plain reader and
+//! writer; prints the tables and writes docs/BENCHMARKS.md.
+mod book;
+mod book_report;
 mod measure;
 mod report;
 
@@ -38,7 +41,9 @@ fn main() -> io::Result<()> {
     }
     let (gauges, middling, long) = (&lists[0].1, &lists[2].1, &lists[4].1);
     let spent = spent(middling, long);
-    println!("{}\n{}\n\n{}", report::table(&rows), report::targets(&rows), report::spent(&spent));
+    println!("{}\n{}\n\n{}\n", report::table(&rows), report::targets(&rows), report::spent(&spent));
+    let books = book_report::section(&book::measure(&oracle));
+    println!("{books}");
     let page = Path::new(env!("CARGO_MANIFEST_DIR")).join("../../docs/BENCHMARKS.md");
-    fs::write(page, report::page(&rows, gauges, &spent))
+    fs::write(page, report::page(&rows, gauges, &spent, &books))
 }

@@ -61,11 +61,12 @@ fn rate(pass: Pass, words: &[String]) -> f64 {
     words.len() as f64 / start.elapsed().as_secs_f64()
 }
 
-fn ratios(rates: &[f64], others: &[f64]) -> Vec<f64> {
+/// Each number to the other of the same round.
+pub fn ratios(rates: &[f64], others: &[f64]) -> Vec<f64> {
     rates.iter().zip(others).map(|(rate, other)| rate / other).collect()
 }
 
-fn median(mut numbers: Vec<f64>) -> f64 {
+pub fn median(mut numbers: Vec<f64>) -> f64 {
     numbers.sort_by(f64::total_cmp);
     numbers[numbers.len() / 2]
 }

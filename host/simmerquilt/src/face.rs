@@ -1,4 +1,4 @@
-//! The two calls into the proved library. All unsafe code of this crate is here.
+//! The calls into the proved library. All unsafe code of this crate is here.
 #![allow(unsafe_code)]
 
 extern "C" {
@@ -23,6 +23,38 @@ extern "C" {
         limit: u64,
         alternate: bool,
         out: *mut [u64; 4],
+    );
+
+    fn simmerquilt_book_start(room: *mut u8, room_length: usize, limited: bool, limit: u64, out: *mut [u64; 2]);
+
+    fn simmerquilt_book_open(book: *const u8, book_length: usize, out: *mut [u64; 6]);
+
+    fn simmerquilt_book_next(book: *const u8, book_length: usize, place: u64, floor: u32, out: *mut [u64; 11]);
+
+    fn simmerquilt_book_read(book: *const u8, book_length: usize, out: *mut [u64; 6]);
+
+    fn simmerquilt_book_add(
+        room: *mut u8,
+        room_length: usize,
+        length: u64,
+        station: u64,
+        name: *const u8,
+        name_length: usize,
+        out: *mut [u64; 2],
+    );
+
+    fn simmerquilt_book_append(
+        room: *mut u8,
+        room_length: usize,
+        format: u32,
+        edition: u32,
+        cut: u32,
+        length: u64,
+        floor: u32,
+        station: u64,
+        name: *const u8,
+        name_length: usize,
+        out: *mut [u64; 3],
     );
 }
 
@@ -64,6 +96,85 @@ pub fn equal(first: &[u8], second: &[u8], limit: Option<u64>, alternate: bool) -
             limit.is_some(),
             limit.unwrap_or(0),
             alternate,
+            &mut out,
+        );
+    }
+    out
+}
+
+/// Number, length.
+#[inline]
+pub fn book_start(room: &mut [u8], limit: Option<u64>) -> [u64; 2] {
+    let mut out = [0; 2];
+    // SAFETY: as above. The room and `out` are ours to write and lie apart.
+    unsafe {
+        simmerquilt_book_start(room.as_mut_ptr(), room.len(), limit.is_some(), limit.unwrap_or(0), &mut out);
+    }
+    out
+}
+
+/// Number, format, edition, cut, place, floor.
+#[inline]
+pub fn book_open(book: &[u8]) -> [u64; 6] {
+    let mut out = [0; 6];
+    // SAFETY: as above. The book is only read.
+    unsafe { simmerquilt_book_open(book.as_ptr(), book.len(), &mut out) };
+    out
+}
+
+/// Number, found, station, start and length of the name, the primary and the alternate code, place, floor.
+#[inline]
+pub fn book_next(book: &[u8], place: u64, floor: u32) -> [u64; 11] {
+    let mut out = [0; 11];
+    // SAFETY: as above. The book is only read, and any cursor may be passed.
+    unsafe { simmerquilt_book_next(book.as_ptr(), book.len(), place, floor, &mut out) };
+    out
+}
+
+/// Number, format, edition, cut, records, floor.
+#[inline]
+pub fn book_read(book: &[u8]) -> [u64; 6] {
+    let mut out = [0; 6];
+    // SAFETY: as above. The book is only read.
+    unsafe { simmerquilt_book_read(book.as_ptr(), book.len(), &mut out) };
+    out
+}
+
+/// Number, length.
+#[inline]
+pub fn book_add(room: &mut [u8], length: u64, station: u64, name: &[u8]) -> [u64; 2] {
+    let mut out = [0; 2];
+    // SAFETY: as above. Any length may be stated, also one beyond the room; the borrows say that room, name and `out` lie apart.
+    unsafe {
+        simmerquilt_book_add(room.as_mut_ptr(), room.len(), length, station, name.as_ptr(), name.len(), &mut out);
+    }
+    out
+}
+
+/// Number, length, floor. The header is format, edition and cut.
+#[inline]
+pub fn book_append(
+    room: &mut [u8],
+    [format, edition, cut]: [u32; 3],
+    length: u64,
+    floor: u32,
+    station: u64,
+    name: &[u8],
+) -> [u64; 3] {
+    let mut out = [0; 3];
+    // SAFETY: as above. The end that is told need not be a good one: a wrong one makes a book with faults, and nothing worse.
+    unsafe {
+        simmerquilt_book_append(
+            room.as_mut_ptr(),
+            room.len(),
+            format,
+            edition,
+            cut,
+            length,
+            floor,
+            station,
+            name.as_ptr(),
+            name.len(),
             &mut out,
         );
     }

@@ -13,14 +13,17 @@
 //! # Ok::<(), Refusal>(())
 //! ```
 //!
-//! [`encode_into`] and [`ask_equal`] are the library's own two questions, on lent buffers and without allocation.
+//! [`encode_into`] and [`ask_equal`] are the library's own two questions, on lent buffers and without allocation. A [`Book`] keeps
+//! names with their codes; [`book`] has the library's calls for those who keep a book's bytes themselves.
 #![deny(unsafe_code)]
 #![warn(missing_docs)]
 
+pub mod book;
 mod face;
 mod lent;
 mod refusal;
 
+pub use book::{Book, BookRefusal, Record, Records};
 pub use lent::{ask_equal, encode_into, Answer, Verdict, CODE_ROOM, WORD_LIMIT};
 pub use refusal::{Refusal, Which, WordRefusal};
 

@@ -1,0 +1,36 @@
+//! Station key books in plain Rust, written from the words of document 02, L1, and not from the proved code or its definition: the
+//! outside witness of the proved reader and writer. It knows no encoder; who writes a book passes the codes in.
+//!
+//! L1 does not say which of two faults comes first that one byte shows. Here, as in the library, a number's form comes before its value.
+mod read;
+mod write;
+
+pub use read::{read, Header, Reader, Record};
+pub use write::{add, push_number, Writer};
+
+/// Why a book or a record is refused: document 02's number.
+pub type Fault = u64;
+
+/// A name over [`NAME_LIMIT`] bytes.
+pub const TOO_LONG: Fault = 1;
+/// A name with a byte of 128 or more.
+pub const NOT_ASCII: Fault = 2;
+/// A number that is not in its shortest form, or has more than four groups.
+pub const BAD_NUMBER: Fault = 5;
+/// The book ends inside something.
+pub const CUT_SHORT: Fault = 6;
+/// A format or an edition other than 1.
+pub const UNKNOWN: Fault = 7;
+/// A station that is not above the one before.
+pub const NOT_RISING: Fault = 8;
+/// A room too short for the result.
+pub const ROOM_SHORT: Fault = 9;
+
+/// The longest name.
+pub const NAME_LIMIT: usize = 1024;
+
+/// Four groups of seven bits hold the numbers below this.
+pub const NUMBER_END: u64 = 1 << 28;
+
+#[cfg(test)]
+mod tests;

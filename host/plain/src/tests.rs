@@ -1,0 +1,108 @@
+//! Books written out byte by byte from document 02's words.
+use super::*;
+
+/// No encoder is needed to tell how a book is laid out.
+fn codes(name: &[u8], limit: Option<u64>) -> (Vec<u8>, Vec<u8>) {
+    let length = limit.map_or(name.len(), |limit| name.len().min(limit as usize));
+    (name[..length].to_ascii_uppercase(), Vec::new())
+}
+
+fn fault(book: &[u8]) -> Fault {
+    read(book).map_or_else(|fault| fault, |_| 0)
+}
+
+fn number(value: u64) -> Vec<u8> {
+    let mut bytes = Vec::new();
+    push_number(&mut bytes, value);
+    bytes
+}
+
+#[test]
+fn numbers_are_groups_of_seven_bits() {
+    assert_eq!(number(0), [0]);
+    assert_eq!(number(127), [127]);
+    assert_eq!(number(128), [128, 1]);
+    assert_eq!(number(16_383), [255, 127]);
+    assert_eq!(number(16_384), [128, 128, 1]);
+    assert_eq!(number(NUMBER_END - 1), [255, 255, 255, 127]);
+}
+
+#[test]
+fn a_book_is_a_header_and_records() {
+    let mut writer = Writer::new(Some(4)).unwrap();
+    writer.push(7, b"ab", codes).unwrap();
+    writer.push(300, b"", codes).unwrap();
+    assert_eq!(writer.as_bytes(), b"\x01\x01\x05\x07\x02ab\x02AB\x00\xac\x02\x00\x00\x00");
+    let (header, records) = read(writer.as_bytes()).unwrap();
+    assert_eq!(header, Header { format: 1, edition: 1, cut: 5 });
+    assert_eq!(header.limit(), Some(4));
+    assert_eq!(records[0], Record { station: 7, name: b"ab", primary: b"AB", alternate: b"" });
+    assert_eq!(records[1], Record { station: 300, name: b"", primary: b"", alternate: b"" });
+}
+
+#[test]
+fn cuts_and_limits() {
+    assert_eq!(Writer::new(None).unwrap().into_bytes(), [1, 1, 0]);
+    assert_eq!(Writer::new(Some(0)).unwrap().into_bytes(), [1, 1, 1]);
+    assert_eq!(Writer::new(Some(NUMBER_END - 2)).unwrap().into_bytes(), [1, 1, 255, 255, 255, 127]);
+    for limit in [NUMBER_END - 1, NUMBER_END, u64::MAX] {
+        assert_eq!(Writer::new(Some(limit)).unwrap_err(), BAD_NUMBER);
+    }
+}
+
+#[test]
+fn each_fault_is_met_at_its_byte() {
+    let cases: &[(&[u8], Fault)] = &[
+        (&[], 6),
+        (&[1, 1], 6),
+        (&[129, 0], 5),
+        (&[2], 7),
+        (&[130, 1], 7),
+        (&[0, 1, 0], 7),
+        (&[1, 0], 7),
+        (&[1, 1, 128], 6),
+        (&[1, 1, 128, 0], 5),
+        (&[1, 1, 128, 128, 128, 128], 5),
+        (&[1, 1, 0], 0),
+        (&[1, 1, 0, 0], 6),
+        (&[1, 1, 0, 0, 0, 0, 0], 0),
+        // The second station equals the first, and is written too long.
+        (&[1, 1, 0, 1, 0, 0, 0, 1], 8),
+        (&[1, 1, 0, 1, 0, 0, 0, 129, 0], 5),
+        // The length is over 1,024 before any byte of the name.
+        (&[1, 1, 0, 1, 129, 8], 1),
+        (&[1, 1, 0, 1, 128, 8], 6),
+        // A high byte in a name that is cut short.
+        (&[1, 1, 0, 1, 9, b'a', 200], 2),
+        (&[1, 1, 0, 1, 9, b'a'], 6),
+        // A high byte in a code.
+        (&[1, 1, 0, 1, 0, 1, 200, 0], 0),
+        (&[1, 1, 0, 1, 0, 2, 200], 6),
+    ];
+    for (book, expected) in cases {
+        assert_eq!(fault(book), *expected, "{book:?}");
+    }
+}
+
+#[test]
+fn a_record_is_tested_in_order() {
+    let mut writer = Writer::new(None).unwrap();
+    let long = [200; NAME_LIMIT + 1];
+    writer.push(7, b"a", codes).unwrap();
+    for (station, name, expected) in
+        [(NUMBER_END, &long[..], 1), (NUMBER_END, &long[1..], 2), (NUMBER_END, b"a", 5), (7, b"a", 8), (6, b"a", 8)]
+    {
+        assert_eq!(writer.push(station, name, codes), Err(expected));
+    }
+    assert_eq!(writer.push(8, b"a", codes), Ok(()));
+}
+
+#[test]
+fn adding_reads_first_and_asks_for_room_last() {
+    let room = [1, 1, 0, 9, 9, 9, 9, 9, 9];
+    assert_eq!(add(&room, 3, 7, b"a", codes), Ok(vec![1, 1, 0, 7, 1, b'a', 1, b'A', 0]));
+    assert_eq!(add(&room[..8], 3, 7, b"a", codes), Err(9));
+    assert_eq!(add(&room, 4, NUMBER_END, b"a", codes), Err(6));
+    assert_eq!(add(&room[..3], 4, NUMBER_END, b"a", codes), Err(6));
+    assert_eq!(add(&[1, 2], 4, NUMBER_END, b"a", codes), Err(7));
+}

@@ -1,0 +1,240 @@
+//! Starting a book and adding to it: refusals in their order, rooms of every length, and what is left alone.
+use crate::draw;
+use crate::witness::{codes, made, same_adding, written};
+use plain::Writer;
+use simmerquilt::book::{self, End, Header, Whole, HEADER_ROOM, RECORD_ROOM, STATION_END};
+use simmerquilt::{Book, BookRefusal};
+use words::Rng;
+
+const HELD: u8 = 0xee;
+
+/// The book, then bytes that are to be kept, up to a room of this length.
+fn lent(book: &[u8], room: usize) -> Vec<u8> {
+    let mut lent = vec![HELD; room.max(book.len())];
+    lent[..book.len()].copy_from_slice(book);
+    lent.truncate(room);
+    lent
+}
+
+#[test]
+fn starting_asks_for_the_cut_and_then_for_room() {
+    let ends = [0, 1, 4, 126, 127, 128, 16_382, 16_383, 2_097_150, 2_097_151, STATION_END - 2];
+    for limit in ends.map(Some).into_iter().chain([None]) {
+        let expected = Writer::new(limit).unwrap().into_bytes();
+        for length in 0..HEADER_ROOM + 3 {
+            let mut room = vec![HELD; length];
+            let started = book::start_in(&mut room, limit);
+            if length < expected.len() {
+                assert_eq!((started, room), (Err(BookRefusal::RoomShort), vec![HELD; length]));
+            } else {
+                assert_eq!((started, room), (Ok(expected.len()), lent(&expected, length)));
+            }
+        }
+    }
+    for limit in [STATION_END - 1, STATION_END, u64::MAX - 1, u64::MAX] {
+        for length in [0, 3, HEADER_ROOM] {
+            let mut room = vec![HELD; length];
+            assert_eq!(book::start_in(&mut room, Some(limit)), Err(BookRefusal::BadNumber));
+            assert_eq!(room, vec![HELD; length]);
+        }
+        assert_eq!(Book::new(Some(limit)).unwrap_err(), BookRefusal::BadNumber);
+    }
+}
+
+#[test]
+fn rooms_of_every_length_around_the_need() {
+    let mut rng = Rng::new(11, 0);
+    for _ in 0..1500 {
+        let count = rng.below(6);
+        let list = draw::list(&mut rng, count, draw::name);
+        let bytes = written(&list);
+        let station = list.records.last().map_or(0, |(station, _)| station + 1);
+        let name = draw::name(&mut rng);
+        let mut grown = made(&list);
+        if grown.add(station, &name).is_err() {
+            // The last station is the largest there is.
+            continue;
+        }
+        let need = grown.as_bytes().len();
+        for (room, expected) in [(need - 1, 9), (need, 0), (need + 1, 0), (need + 40, 0)] {
+            assert_eq!(same_adding(&lent(&bytes, room), bytes.len(), station, &name), expected);
+        }
+    }
+}
+
+#[test]
+fn a_short_room_has_every_length() {
+    let list = draw::list(&mut Rng::new(12, 0), 4, draw::short_name);
+    let bytes = written(&list);
+    for room in 0..bytes.len() + 60 {
+        same_adding(&lent(&bytes, room), bytes.len(), STATION_END - 1, b"Schermerhorn");
+    }
+}
+
+/// Every set of conditions at once: the first in order is given.
+#[test]
+fn a_record_is_tested_for_1_2_5_8_9_behind_the_book() {
+    let good = b"\x01\x01\x05\x07\x01a\x01A\x01A";
+    let mut long = vec![b'b'; 1025];
+    let damages: [(u64, &[u8]); 7] = [
+        (0, good),
+        (1, b"\x01\x01\x05\x07\x81\x08"),
+        (2, b"\x01\x01\x05\x07\x01\x80"),
+        (5, b"\x01\x01\x05\x87\x00"),
+        (6, b"\x01\x01\x05\x07\x01a\x01A\x01"),
+        (7, b"\x01\x02\x05"),
+        (8, b"\x01\x01\x05\x07\x00\x00\x00\x07"),
+    ];
+    for (damage, book) in damages {
+        for conditions in 0..32 {
+            let holds = |condition: u32| conditions >> condition & 1 == 1;
+            long[9] = if holds(1) { 200 } else { b'b' };
+            let name = if holds(0) { &long[..] } else { &long[..20] };
+            let station = match (holds(2), holds(3)) {
+                (true, false) => STATION_END,
+                (true, true) => u64::MAX,
+                (false, true) => 7,
+                (false, false) => 8,
+            };
+            let room = if holds(4) { book.len() + 3 } else { book.len() + RECORD_ROOM };
+            let first = [1, 2, 5, 8, 9].into_iter().zip(0..).find(|(_, condition)| holds(*condition));
+            let expected = if damage == 0 { first.map_or(0, |(number, _)| number) } else { damage };
+            assert_eq!(same_adding(&lent(book, room), book.len(), station, name), expected, "{damage}, {conditions}");
+        }
+    }
+}
+
+#[test]
+fn any_addition_gets_the_plain_answer() {
+    let mut rng = Rng::new(13, 0);
+    let mut numbers = [0; 10];
+    for _ in 0..60_000 {
+        let mut bytes = if rng.once_in(3) {
+            draw::shaped(&mut rng)
+        } else {
+            let count = rng.below(5);
+            written(&draw::list(&mut rng, count, draw::short_name))
+        };
+        if rng.once_in(8) && !bytes.is_empty() {
+            let place = rng.below(bytes.len());
+            bytes[place] = rng.byte();
+        }
+        let station = match rng.below(12) {
+            0 => STATION_END + rng.below(2) as u64,
+            1 => rng.number(),
+            2..=6 => STATION_END - 1 - rng.below(2) as u64,
+            _ => draw::number(&mut rng),
+        };
+        let mut name = if rng.once_in(30) { vec![b'a'; 1024 + rng.below(3)] } else { draw::short_name(&mut rng) };
+        if rng.once_in(10) {
+            name.push(rng.byte());
+        }
+        let room = (bytes.len() + rng.below(40)).saturating_sub(rng.below(4));
+        let room = if rng.once_in(8) { rng.below(room + 1) } else { room };
+        let length = match rng.below(20) {
+            0 => rng.below(bytes.len() + 1),
+            1 => room + 1 + rng.below(9),
+            2 => usize::MAX - rng.below(2),
+            _ => bytes.len(),
+        };
+        numbers[same_adding(&lent(&bytes, room), length, station, &name) as usize] += 1;
+    }
+    assert!([0, 1, 2, 5, 6, 7, 8, 9].iter().all(|number| numbers[*number] > 300), "{numbers:?}");
+}
+
+#[test]
+fn of_a_length_beyond_the_room_the_bytes_that_are_there_are_read() {
+    let good = b"\x01\x01\x05\x07\x01a\x01A\x01A";
+    for length in [good.len() + 1, good.len() + 100, usize::MAX] {
+        // Also where the record would be refused, or the room too short.
+        for (station, name) in [(8, &b"b"[..]), (7, b"\x80"), (u64::MAX, &[200; 1025])] {
+            assert_eq!(same_adding(good, length, station, name), 6);
+            assert_eq!(same_adding(&good[..3], length, station, name), 6);
+            assert_eq!(same_adding(&good[..5], length, station, name), 6);
+            assert_eq!(same_adding(&[], length, station, name), 6);
+            assert_eq!(same_adding(&[1, 1, 0, 7, 2, b'a', 200], length, station, name), 2);
+            assert_eq!(same_adding(&[2], length, station, name), 7);
+        }
+    }
+}
+
+#[test]
+fn appending_is_adding_all_along_a_list() {
+    let mut rng = Rng::new(14, 0);
+    for _ in 0..400 {
+        let count = rng.below(30);
+        let list = draw::list(&mut rng, count, draw::name);
+        let room = written(&list).len() + rng.below(3);
+        let (mut added, mut appended) = (vec![HELD; room], vec![HELD; room]);
+        let mut length = book::start_in(&mut added, list.limit).unwrap();
+        assert_eq!(book::start_in(&mut appended, list.limit), Ok(length));
+        let Whole { header, mut end, .. } = book::read(&appended[..length]).unwrap();
+        for (station, name) in &list.records {
+            length = book::add_in(&mut added, length, *station, name).unwrap();
+            end = book::append_in(&mut appended, header, end, *station, name).unwrap();
+            assert_eq!(book::read(&appended[..length]).unwrap().end, end);
+            assert_eq!(appended, added);
+            // A station a second time.
+            assert_eq!(book::append_in(&mut appended, header, end, *station, name), Err(BookRefusal::NotRising));
+        }
+        assert_eq!(appended, added);
+    }
+}
+
+/// Every set of conditions at once: the first in order is given, and nothing is written.
+#[test]
+fn an_append_is_tested_for_7_and_6_and_then_as_a_record() {
+    let good = b"\x01\x01\x05\x07\x01a\x01A\x01A";
+    let mut long = vec![b'b'; 1025];
+    for conditions in 0..128 {
+        let holds = |condition: u32| conditions >> condition & 1 == 1;
+        let unknown = [(0, 1), (2, 1), (u32::MAX, 1), (1, 0), (1, 2), (3, 3)];
+        let known = [(1, 1)];
+        long[9] = if holds(3) { 200 } else { b'b' };
+        let name = if holds(2) { &long[..] } else { &long[..20] };
+        let station = if holds(4) { STATION_END } else { 8 };
+        let floor = if holds(5) { u32::MAX } else { 8 };
+        let room = if holds(6) { good.len() + 3 } else { good.len() + RECORD_ROOM };
+        let length = if holds(1) { room + 1 } else { good.len() };
+        let first = [7, 6, 1, 2, 5, 8, 9].into_iter().zip(0..).find(|(_, condition)| holds(*condition));
+        for (format, edition) in if holds(0) { &unknown[..] } else { &known } {
+            let header = Header { format: *format, edition: *edition, cut: 5 };
+            let mut room = lent(good, room);
+            let before = room.clone();
+            let answer = book::append_in(&mut room, header, End { length, floor }, station, name);
+            match first {
+                None => assert_eq!(answer, Ok(End { length: good.len() + 1 + 21 + 5 + 5, floor: 9 })),
+                Some((number, _)) => {
+                    assert_eq!(answer.unwrap_err().number(), number, "{conditions}");
+                    assert_eq!(room, before);
+                }
+            }
+        }
+    }
+}
+
+#[test]
+fn appending_needs_just_the_room_of_the_record() {
+    let mut rng = Rng::new(15, 0);
+    for _ in 0..2000 {
+        let (limit, name, station) = (draw::limit(&mut rng), draw::name(&mut rng), draw::number(&mut rng));
+        let mut writer = Writer::new(limit).unwrap();
+        let book = writer.as_bytes().to_vec();
+        writer.push(station, &name, codes).unwrap();
+        let Whole { header, end, .. } = book::read(&book).unwrap();
+        for room in [writer.as_bytes().len() - 1, writer.as_bytes().len(), writer.as_bytes().len() + 9] {
+            let mut room = lent(&book, room);
+            let before = room.clone();
+            match book::append_in(&mut room, header, end, station, &name) {
+                Ok(end) => {
+                    assert_eq!(end, End { length: writer.as_bytes().len(), floor: station as u32 + 1 });
+                    assert_eq!(room, lent(writer.as_bytes(), before.len()));
+                }
+                Err(refusal) => {
+                    assert_eq!((refusal, before.len()), (BookRefusal::RoomShort, writer.as_bytes().len() - 1));
+                    assert_eq!(room, before);
+                }
+            }
+        }
+    }
+}

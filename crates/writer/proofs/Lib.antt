@@ -2,10 +2,8 @@
 --     Placed     what is answered for bytes laid into lent room
 --     Named      what the encoder's answer means for a new record
 --     Ends       the end of a book, going on from it, and adding
---     Grows      `start-reads`, `add-reads`, `goes-on`, `append-adds`: what the writer makes reads back
 --     NoChoice   no public function's promise leaves a choice
 pub mod Placed
 pub mod Named
 pub mod Ends
-pub mod Grows
 pub mod NoChoice

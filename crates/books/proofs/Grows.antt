@@ -20,17 +20,17 @@ use Rattle.book.specs.declared.Header.{Header}
 use Rattle.book.specs.Book.{Record, Book, headerBytes, recordBytes, written, above, readBook}
 use Rattle.book.specs.Told.{floorOf}
 use Rattle.book.proofs.Book.{FineHeader, FineRecord, FineRecords, reads-back, OneBook, one-book}
-use Rattle.book.proofs.Good.{clean}
+use Rattle.books.proofs.Good.{clean}
 use Rattle.writer.specs.declared.End.{End}
 use Rattle.writer.specs.declared.Ended.{Ended}
 use Rattle.writer.specs.declared.Ended.the-variants as ended
 use Rattle.writer.specs.declared.Made.{Made}
 use Rattle.writer.specs.declared.Made.the-variants.{Length, Fault}
 use Rattle.writer.specs.Made.{limitOf, cutFault, placed, left, Placed, newHeader, keyed, newFault}
 use Rattle.writer.specs.Ended.{readIn, endOf, endedIn, GoodEnd, placedAt, behind, Appended, addedBy, leftBy, Added, lengthOf}
 use Rattle.writer.proofs.Placed.{Laid, was-laid, Sound, sound}
 use Rattle.writer.proofs.Named.{code-fits}
 use Rattle.writer.proofs.Ends.{lies, no-end-fault, placed-on, end-told, added}
 
 -- ---- what lies before and behind the bytes that were laid down is kept
 pub laid : (room : List ℕ) (at : ℕ) (bytes : List ℕ) → at + length bytes ≤ length room → sets room at bytes ≡ take at room ++ bytes ++ drop (at + length bytes) room

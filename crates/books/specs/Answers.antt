@@ -6,7 +6,8 @@ use mathlib.Core.Bool.{Bool, true, _||_, _&&_}
 use mathlib.Core.List.{List}
 use lib.Dec.{leb, eqb}
 use lib.ListN.{length}
-use Rattle.book.specs.Book.{Got, good, bad, Book}
+use Rattle.fields.specs.Got.{Got, good, bad}
+use Rattle.book.specs.Book.{Book}
 
 abbrev pub isFault : ℕ → Bool
 isFault f = eqb f 1 || eqb f 2 || (leb 5 f && leb f 8)

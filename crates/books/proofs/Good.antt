@@ -14,9 +14,10 @@ use Rattle.fields.specs.Got.{good}
 use Rattle.fields.specs.Field.{faultIn}
 use Rattle.fields.proofs.Field.{none-in}
 use Rattle.fields.proofs.All as all
-use Rattle.book.specs.Book.{Header, Record, Book, written, known, rising, nameLength, nameByte, above, readBook}
-use Rattle.book.specs.Good.{GoodHeader, GoodRecord, GoodRecords, none, more}
+use Rattle.book.specs.declared.Header.{Header}
+use Rattle.book.specs.Book.{Record, Book, written, known, rising, nameLength, nameByte, above, readBook}
+use Rattle.books.specs.Good.{GoodHeader, GoodRecord, GoodRecords, none, more}
 use Rattle.book.proofs.Book.{FineHeader, FineRecord, FineRecords, reads-back, OneBook, one-book}
 
 -- ---- a name without a high byte shows no fault
 pub clean : (w : List ℕ) → length w ≤ firstHigh w → faultIn nameByte w ≡ 0

@@ -5,7 +5,8 @@ use mathlib.Core.List.{List, [], _∷_}
 use lib.ListN.{length}
 use Rattle.encoder.specs.Numbers.{wordLimit}
 use Rattle.encoder.specs.Trim.{firstHigh}
-use Rattle.book.specs.Book.{Header, Record, above}
+use Rattle.book.specs.declared.Header.{Header}
+use Rattle.book.specs.Book.{Record, above}
 
 pub record GoodHeader (h : Header) : Type 0 where
   pub format : h .format ≡ 1

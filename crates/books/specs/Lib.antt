@@ -1,0 +1,7 @@
+-- What is stated of station key books.
+--     Good      what a book may hold, in plain terms
+--     Rising    stations that rise strictly
+--     Answers   what reading can answer
+pub mod Good
+pub mod Rising
+pub mod Answers

@@ -8,7 +8,7 @@ use Rattle.encoder.specs.declared.Limit.{Limit}
 use Rattle.encoder.specs.declared.Encoder.{Encoder}
 use Rattle.encoder.specs.declared.Answer.{Answer}
 use Rattle.encoder.specs.Encode.{encoderOf, answerOf, Encoded}
-use Rattle.simmerquilt.specs.Face.{answerNumbers}
+use Rattle.answers.specs.Numbers.{answerNumbers}
 
 module _ {s : Encoder} {given l : Limit} {w p a o : List ℕ} {r : Answer} {p′ a′ : List ℕ} where
   pub told-encoded : s ≡ encoderOf given → given ≡ l → Encoded (s .limit) w p a r p′ a′ → o ≡ answerNumbers r

@@ -7,7 +7,7 @@ use Rattle.encoder.specs.declared.Limit.{Limit}
 use Rattle.book.specs.Book.{headerBytes}
 use Rattle.writer.specs.declared.Made.{Made}
 use Rattle.writer.specs.Made.{cutOf, cutFault, newHeader, placed, left, Placed}
-use Rattle.simmerquilt.specs.Books.{madeNumbers}
+use Rattle.answers.specs.Numbers.{madeNumbers}
 
 pub told-started : {given l : Limit} {room o room′ : List ℕ} {r : Made} → given ≡ l → Placed (cutFault (cutOf given)) room 0 (headerBytes (newHeader (cutOf given))) r room′ → o ≡ madeNumbers r
     → (o ≡ madeNumbers (placed (cutFault (cutOf l)) (length room) 0 (headerBytes (newHeader (cutOf l)))))

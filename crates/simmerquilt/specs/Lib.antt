@@ -1,5 +1,3 @@
 -- The C face.
---     Face    a host's numbers as a limit and a choice, and an answer as a host's numbers
---     Books   the same for the station key book
+--     Face   a host's numbers as a limit, a choice, a cursor and an end
 pub mod Face
-pub mod Books

@@ -2,16 +2,15 @@
 // slice is a pointer and a length; answers go to arrays that the caller lends, so that nothing is returned by value.
 mod books;
 
-use encoder::Answer;
 use encoder::Choice;
 use encoder::Encoder;
 use encoder::Limit;
-use equality::Verdict;
 ghost use mathlib.Core.Path.{_≡_};
 ghost use lib.ListN.{length};
 ghost use Rattle.encoder.specs.Encode.{answerOf, Encoded};
 ghost use Rattle.equality.specs.Equality.{verdictOf};
-ghost use Rattle.simmerquilt.specs.Face.{limitOf, choiceOf, answerNumbers, verdictNumbers};
+ghost use Rattle.answers.specs.Numbers.{answerNumbers, verdictNumbers};
+ghost use Rattle.simmerquilt.specs.Face.{limitOf, choiceOf};
 
 // `limit` counts where `limited` is true.
 pub fn limit_of(limited: bool, limit: u64) -> Limit
@@ -34,53 +33,6 @@ fn choice_of(alternate: bool) -> Choice
     }
 }
 
-// Number, place, both lengths and visits.
-fn tell_answer(answer: Answer, out: &mut [u64; 5])
-    ensures { λ _. ⌜ now (out .exit) ≡ answerNumbers answer ⌝ }
-{
-    match answer {
-        Answer::Coded {
-            primary,
-            alternate,
-            visits,
-        } => {
-            *out = [0, 0, primary as u64, alternate as u64, visits as u64];
-        }
-        Answer::TooLong => {
-            *out = [1, 0, 0, 0, 0];
-        }
-        Answer::NotAscii(at) => {
-            *out = [2, at as u64, 0, 0, 0];
-        }
-        Answer::PrimaryShort => {
-            *out = [3, 0, 0, 0, 0];
-        }
-        Answer::AlternateShort => {
-            *out = [4, 0, 0, 0, 0];
-        }
-    }
-}
-
-// Number, which word, place, and 1 for equal.
-fn tell_verdict(verdict: Verdict, out: &mut [u64; 4])
-    ensures { λ _. ⌜ now (out .exit) ≡ verdictNumbers verdict ⌝ }
-{
-    match verdict {
-        Verdict::Equal => {
-            *out = [0, 0, 0, 1];
-        }
-        Verdict::Different => {
-            *out = [0, 0, 0, 0];
-        }
-        Verdict::TooLong(which) => {
-            *out = [1, which as u64, 0, 0];
-        }
-        Verdict::NotAscii(which, at) => {
-            *out = [2, which as u64, at as u64, 0];
-        }
-    }
-}
-
 // The codes of a word, each at the front of its buffer; `out` is number, place, primary length, alternate length, visits.
 #[no_mangle]
 pub extern "C" fn simmerquilt_encode(
@@ -95,7 +47,7 @@ pub extern "C" fn simmerquilt_encode(
     ensures buffers { λ _. ⌜ Encoded (limitOf limited limit) (now (word .entry)) (now (primary .entry)) (now (alternate .entry)) (answerOf (limitOf limited limit) (now (word .entry)) (length (now (primary .entry))) (length (now (alternate .entry)))) (now (primary .exit)) (now (alternate .exit)) ⌝ }
 {
     let answer = Encoder::new(limit_of(limited, limit)).encode(word, primary, alternate);
-    tell_answer(answer, out);
+    answers::tell_answer(answer, out);
 }
 
 // Whether two words have equal codes; `out` is number, which word (0 unless refused), place, and 1 for equal.
@@ -116,5 +68,5 @@ pub extern "C" fn simmerquilt_equal(
         first,
         second,
     );
-    tell_verdict(verdict, out);
+    answers::tell_verdict(verdict, out);
 }

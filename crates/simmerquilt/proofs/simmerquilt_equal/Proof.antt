@@ -6,7 +6,7 @@ use denote.Ref.{now}
 use Rattle.encoder.specs.declared.Limit.{Limit}
 use Rattle.encoder.specs.declared.Choice.{Choice}
 use Rattle.equality.specs.Equality.{verdictOf}
-use Rattle.simmerquilt.specs.Face.{verdictNumbers}
+use Rattle.answers.specs.Numbers.{verdictNumbers}
 use Rattle.simmerquilt.proofs.simmerquilt_equal.Statement.{statement}
 use Rattle.simmerquilt.proofs.simmerquilt_equal.Tie as tie
 

@@ -1,7 +1,7 @@
 -- `simmerquilt::books::simmerquilt_book_add` meets its contract. Assumes nothing.
 use mathlib.Core.Path.{ap, _∙_}
 use borrow.Author.Needs.{needs}
-use Rattle.simmerquilt.specs.Books.{madeNumbers}
+use Rattle.answers.specs.Numbers.{madeNumbers}
 use Rattle.simmerquilt.proofs.books.simmerquilt_book_add.Statement.{statement}
 use Rattle.simmerquilt.proofs.books.simmerquilt_book_add.Tie as tie
 

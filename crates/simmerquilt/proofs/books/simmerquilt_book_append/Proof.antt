@@ -1,7 +1,7 @@
 -- `simmerquilt::books::simmerquilt_book_append` meets its contract. Assumes nothing.
 use mathlib.Core.Path.{ap, _∙_}
 use borrow.Author.Needs.{needs}
-use Rattle.simmerquilt.specs.Books.{endedNumbers}
+use Rattle.answers.specs.Numbers.{endedNumbers}
 use Rattle.simmerquilt.proofs.books.simmerquilt_book_append.Statement.{statement}
 use Rattle.simmerquilt.proofs.books.simmerquilt_book_append.Tie as tie
 

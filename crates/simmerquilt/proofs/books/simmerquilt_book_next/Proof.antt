@@ -1,7 +1,7 @@
 -- `simmerquilt::books::simmerquilt_book_next` meets its contract. Assumes nothing.
 use mathlib.Core.Path.{ap, _∙_}
 use borrow.Author.Needs.{needs}
-use Rattle.simmerquilt.specs.Books.{stepNumbers}
+use Rattle.answers.specs.Numbers.{stepNumbers}
 use Rattle.simmerquilt.proofs.books.simmerquilt_book_next.Statement.{statement}
 use Rattle.simmerquilt.proofs.books.simmerquilt_book_next.Tie as tie
 

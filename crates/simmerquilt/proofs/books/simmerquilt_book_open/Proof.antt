@@ -1,7 +1,7 @@
 -- `simmerquilt::books::simmerquilt_book_open` meets its contract. Assumes nothing.
 use mathlib.Core.Path.{ap, _∙_}
 use borrow.Author.Needs.{needs}
-use Rattle.simmerquilt.specs.Books.{openedNumbers}
+use Rattle.answers.specs.Numbers.{openedNumbers}
 use Rattle.simmerquilt.proofs.books.simmerquilt_book_open.Statement.{statement}
 use Rattle.simmerquilt.proofs.books.simmerquilt_book_open.Tie as tie
 

@@ -1,7 +1,7 @@
 -- `simmerquilt::books::simmerquilt_book_read` meets its contract. Assumes nothing.
 use mathlib.Core.Path.{ap, _∙_}
 use borrow.Author.Needs.{needs}
-use Rattle.simmerquilt.specs.Books.{wholeNumbers}
+use Rattle.answers.specs.Numbers.{wholeNumbers}
 use Rattle.simmerquilt.proofs.books.simmerquilt_book_read.Statement.{statement}
 use Rattle.simmerquilt.proofs.books.simmerquilt_book_read.Tie as tie
 

@@ -1,7 +1,7 @@
--- `simmerquilt::tell_verdict` meets its contract: each arm writes the numbers of its case. Assumes nothing.
+-- `answers::tell_verdict` meets its contract: each arm writes the numbers of its case. Assumes nothing.
 use borrow.Author.Needs.{needs}
-use Rattle.simmerquilt.proofs.tell_verdict.Statement.{statement}
-use Rattle.simmerquilt.proofs.tell_verdict.Tie as tie
+use Rattle.answers.proofs.tell_verdict.Statement.{statement}
+use Rattle.answers.proofs.tell_verdict.Tie as tie
 
 pub tell-verdict-spec : {M : Type 1} → statement M
 tell-verdict-spec =

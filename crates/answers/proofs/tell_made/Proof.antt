@@ -1,7 +1,7 @@
--- `simmerquilt::books::tell_made` meets its contract: each arm writes the numbers of its case. Assumes nothing.
+-- `answers::tell_made` meets its contract: each arm writes the numbers of its case. Assumes nothing.
 use borrow.Author.Needs.{needs}
-use Rattle.simmerquilt.proofs.books.tell_made.Statement.{statement}
-use Rattle.simmerquilt.proofs.books.tell_made.Tie as tie
+use Rattle.answers.proofs.tell_made.Statement.{statement}
+use Rattle.answers.proofs.tell_made.Tie as tie
 
 pub tell-made-spec : {M : Type 1} → statement M
 tell-made-spec =

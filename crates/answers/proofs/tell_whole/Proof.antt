@@ -1,7 +1,7 @@
--- `simmerquilt::books::tell_whole` meets its contract: each arm writes the numbers of its case. Assumes nothing.
+-- `answers::tell_whole` meets its contract: each arm writes the numbers of its case. Assumes nothing.
 use borrow.Author.Needs.{needs}
-use Rattle.simmerquilt.proofs.books.tell_whole.Statement.{statement}
-use Rattle.simmerquilt.proofs.books.tell_whole.Tie as tie
+use Rattle.answers.proofs.tell_whole.Statement.{statement}
+use Rattle.answers.proofs.tell_whole.Tie as tie
 
 pub tell-whole-spec : {M : Type 1} → statement M
 tell-whole-spec =

@@ -1,7 +1,7 @@
--- `simmerquilt::books::tell_ended` meets its contract: each arm writes the numbers of its case. Assumes nothing.
+-- `answers::tell_ended` meets its contract: each arm writes the numbers of its case. Assumes nothing.
 use borrow.Author.Needs.{needs}
-use Rattle.simmerquilt.proofs.books.tell_ended.Statement.{statement}
-use Rattle.simmerquilt.proofs.books.tell_ended.Tie as tie
+use Rattle.answers.proofs.tell_ended.Statement.{statement}
+use Rattle.answers.proofs.tell_ended.Tie as tie
 
 pub tell-ended-spec : {M : Type 1} → statement M
 tell-ended-spec =

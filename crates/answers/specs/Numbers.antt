@@ -1,26 +1,30 @@
--- The station key book on the C face: a host's numbers as a cursor and an end, and the answers as numbers, the refusal's first. What the
--- answers are is the book's and the writer's own definition.
+-- Answers as numbers, in document 01's order and document 02's: 0 or the refusal's number first, and 0 for what an answer does not have.
 use Prim.Native.Nat.{ℕ}
 use mathlib.Core.List.{List, [], _∷_}
-use Rattle.book.specs.declared.Cursor.{Cursor}
+use Rattle.encoder.specs.declared.Answer.{Answer}
+use Rattle.encoder.specs.Encode.{numberOf, placeOf, primaryLength, alternateLength, visitCount}
+use Rattle.equality.specs.declared.Verdict.{Verdict}
+use Rattle.equality.specs.Equality as equality
 use Rattle.book.specs.declared.Opened.{Opened}
 use Rattle.book.specs.declared.Opened.the-variants as opened
 use Rattle.book.specs.declared.Step.{Step}
 use Rattle.book.specs.declared.Step.the-variants as step
 use Rattle.book.specs.declared.Whole.{Whole}
 use Rattle.book.specs.declared.Whole.the-variants as whole
-use Rattle.writer.specs.declared.End.{End}
 use Rattle.writer.specs.declared.Ended.{Ended}
 use Rattle.writer.specs.declared.Ended.the-variants as ended
 use Rattle.writer.specs.declared.Made.{Made}
 use Rattle.writer.specs.declared.Made.the-variants as made
 
-abbrev pub cursorOf : ℕ → ℕ → Cursor
-cursorOf place floor = record { at = place; floor = floor }
+-- number, place, primary length, alternate length, visits
+abbrev pub answerNumbers : Answer → List ℕ
+answerNumbers r = numberOf r ∷ placeOf r ∷ primaryLength r ∷ alternateLength r ∷ visitCount r ∷ []
 
-abbrev pub endFrom : ℕ → ℕ → ℕ → ℕ → ℕ → End
-endFrom format edition cut len floor = record { header = record { format = format; edition = edition; cut = cut }; len = len; floor = floor }
+-- number, which word, place, and 1 for equal
+abbrev pub verdictNumbers : Verdict → List ℕ
+verdictNumbers r = equality.numberOf r ∷ equality.wordOf r ∷ equality.placeOf r ∷ equality.equalOf r ∷ []
 
+-- ---- the station key book's
 -- number and length
 abbrev pub madeNumbers : Made → List ℕ
 madeNumbers (made.Length n) = 0 ∷ n ∷ []

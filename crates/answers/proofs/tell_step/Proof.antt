@@ -1,7 +1,7 @@
--- `simmerquilt::books::tell_step` meets its contract: each arm writes the numbers of its case. Assumes nothing.
+-- `answers::tell_step` meets its contract: each arm writes the numbers of its case. Assumes nothing.
 use borrow.Author.Needs.{needs}
-use Rattle.simmerquilt.proofs.books.tell_step.Statement.{statement}
-use Rattle.simmerquilt.proofs.books.tell_step.Tie as tie
+use Rattle.answers.proofs.tell_step.Statement.{statement}
+use Rattle.answers.proofs.tell_step.Tie as tie
 
 pub tell-step-spec : {M : Type 1} → statement M
 tell-step-spec =

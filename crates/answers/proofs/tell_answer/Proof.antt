@@ -1,7 +1,7 @@
--- `simmerquilt::tell_answer` meets its contract: each arm writes the numbers of its case. Assumes nothing.
+-- `answers::tell_answer` meets its contract: each arm writes the numbers of its case. Assumes nothing.
 use borrow.Author.Needs.{needs}
-use Rattle.simmerquilt.proofs.tell_answer.Statement.{statement}
-use Rattle.simmerquilt.proofs.tell_answer.Tie as tie
+use Rattle.answers.proofs.tell_answer.Statement.{statement}
+use Rattle.answers.proofs.tell_answer.Tie as tie
 
 pub tell-answer-spec : {M : Type 1} → statement M
 tell-answer-spec =

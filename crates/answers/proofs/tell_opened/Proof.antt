@@ -1,7 +1,7 @@
--- `simmerquilt::books::tell_opened` meets its contract: each arm writes the numbers of its case. Assumes nothing.
+-- `answers::tell_opened` meets its contract: each arm writes the numbers of its case. Assumes nothing.
 use borrow.Author.Needs.{needs}
-use Rattle.simmerquilt.proofs.books.tell_opened.Statement.{statement}
-use Rattle.simmerquilt.proofs.books.tell_opened.Tie as tie
+use Rattle.answers.proofs.tell_opened.Statement.{statement}
+use Rattle.answers.proofs.tell_opened.Tie as tie
 
 pub tell-opened-spec : {M : Type 1} → statement M
 tell-opened-spec =

@@ -1,0 +1,3 @@
+-- Answers as numbers.
+--     Numbers   the numbers of each answer
+pub mod Numbers

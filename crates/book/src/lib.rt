@@ -1,4 +1,5 @@
-// The station key book, read: a header and records, at a cursor or to the end.
+// The station key book, read: a header and records, at a cursor or to the end. A fault is document 02's number: 1 and 2 for a name that the
+// encoder refuses, 5 a number in a bad form, 6 the book ends inside something, 7 unknown format or edition, 8 station not above the one before.
 ghost use mathlib.Core.Path.{_≡_};
 ghost use Prim.Native.Nat.{_≤_};
 ghost use lib.ListN.{length, drop};

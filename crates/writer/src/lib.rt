@@ -1,4 +1,5 @@
-// The station key book, written in lent room: started, added to, and gone on with from a known good end. A refusal changes nothing.
+// The station key book, written in lent room: started, added to, and gone on with from a known good end. A fault is document 02's number, 9 that
+// the lent room is too short for the result; a refusal changes nothing.
 ghost use mathlib.Core.Path.{_≡_};
 ghost use Prim.Native.Nat.{_+_, _^_, _≤_, _<_};
 ghost use mathlib.Core.List.{_++_};

@@ -1,5 +1,5 @@
 -- The station key book, after request L1: how it is written, and what reading it gives: its header and records, or the first fault
--- met, at the byte that shows it, and of a short book at its end. crates/books/proofs/Good.antt has the theorems.
+-- met, at the byte that shows it, and of a short book at its end. crates/book_laws/proofs/Good.antt has the theorems.
 --
 -- Fields are read in their order. A number is judged when it is whole: its form (5) before its value (1, 7, 8). A name's length is
 -- judged (1) before any byte of it, and its bytes (2) before its end is missed (6).

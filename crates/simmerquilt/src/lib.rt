@@ -13,7 +13,7 @@ ghost use Rattle.answers.specs.Numbers.{answerNumbers, verdictNumbers};
 ghost use Rattle.simmerquilt.specs.Face.{limitOf, choiceOf};
 
 // `limit` counts where `limited` is true.
-pub fn limit_of(limited: bool, limit: u64) -> Limit
+fn limit_of(limited: bool, limit: u64) -> Limit
     ensures { λ r. ⌜ r ≡ limitOf limited limit ⌝ }
 {
     if limited {

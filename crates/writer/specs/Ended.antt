@@ -1,4 +1,4 @@
--- The end of a good book: where it is found, and how adding goes on from it. crates/books/proofs/Grows.antt shows that going on from the end of a book
+-- The end of a good book: where it is found, and how adding goes on from it. crates/book_laws/proofs/Grows.antt shows that going on from the end of a book
 -- adds to that book, and ends at the end of the new one.
 use Prim.Native.Nat.{ℕ, _+_}
 use mathlib.Core.Path.{_≡_}

@@ -13,7 +13,7 @@ use Rattle.fields.specs.Field.{readNumber, readText, any}
 use Rattle.fields.proofs.Faults.{Only, Judged, only-number, only-text, only-both, only-mapped, only-all}
 use Rattle.book.specs.declared.Header.{Header}
 use Rattle.book.specs.Book.{Record, Book, known, rising, nameLength, nameByte, headerOf, recordOf, readHeader, readRecord, above, readRecords, under, behindHeader, readBook}
-use Rattle.books.specs.Answers.{isFault, Answer, reads, shows}
+use Rattle.book_laws.specs.Answers.{isFault, Answer, reads, shows}
 use Rattle.book.proofs.Book.{one-book}
 
 abbrev IsFault : ℕ → Type 0

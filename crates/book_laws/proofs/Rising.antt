@@ -7,9 +7,9 @@ use lib.ListN.{length, getD}
 use Rattle.number.specs.Septets.{Bytes}
 use Rattle.fields.specs.Got.{good}
 use Rattle.book.specs.Book.{Record, Book, above, readBook}
-use Rattle.books.specs.Good.{GoodRecords, none, more}
-use Rattle.books.specs.Rising.{stations, Rising}
-use Rattle.books.proofs.Good.{only-book}
+use Rattle.book_laws.specs.Good.{GoodRecords, none, more}
+use Rattle.book_laws.specs.Rising.{stations, Rising}
+use Rattle.book_laws.proofs.Good.{only-book}
 
 -- none is below the floor
 from-floor : (floor : ℕ) (rs : List Record) → GoodRecords floor rs → (j : ℕ) → j < length (stations rs) → floor ≤ getD (stations rs) j 0

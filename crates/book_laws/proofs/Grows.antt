@@ -20,7 +20,7 @@ use Rattle.book.specs.declared.Header.{Header}
 use Rattle.book.specs.Book.{Record, Book, headerBytes, recordBytes, written, above, readBook}
 use Rattle.book.specs.Told.{floorOf}
 use Rattle.book.proofs.Book.{FineHeader, FineRecord, FineRecords, reads-back, OneBook, one-book}
-use Rattle.books.proofs.Good.{clean}
+use Rattle.book_laws.proofs.Good.{clean}
 use Rattle.writer.specs.declared.End.{End}
 use Rattle.writer.specs.declared.Ended.{Ended}
 use Rattle.writer.specs.declared.Ended.the-variants as ended

@@ -16,7 +16,7 @@ use Rattle.fields.proofs.Field.{none-in}
 use Rattle.fields.proofs.All as all
 use Rattle.book.specs.declared.Header.{Header}
 use Rattle.book.specs.Book.{Record, Book, written, known, rising, nameLength, nameByte, above, readBook}
-use Rattle.books.specs.Good.{GoodHeader, GoodRecord, GoodRecords, none, more}
+use Rattle.book_laws.specs.Good.{GoodHeader, GoodRecord, GoodRecords, none, more}
 use Rattle.book.proofs.Book.{FineHeader, FineRecord, FineRecords, reads-back, OneBook, one-book}
 
 -- ---- a name without a high byte shows no fault

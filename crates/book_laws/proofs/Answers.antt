@@ -10,6 +10,7 @@ use Rattle.number.specs.Septets.{Bytes}
 use Rattle.encoder.specs.Numbers.{wordLimit}
 use Rattle.fields.specs.Got.{Got, good, bad, readBoth}
 use Rattle.fields.specs.Field.{readNumber, readText, any}
+use Rattle.fields.proofs.Law.{same-fault}
 use Rattle.fields.proofs.Faults.{Only, Judged, only-number, only-text, only-both, only-mapped, only-all}
 use Rattle.book.specs.declared.Header.{Header}
 use Rattle.book.specs.Book.{Record, Book, known, rising, nameLength, nameByte, headerOf, recordOf, readHeader, readRecord, above, readRecords, under, behindHeader, readBook}
@@ -79,15 +80,12 @@ book-faults : Only IsFault readBook
 unfolding readBook
 book-faults l f e = go (readHeader l) refl e
   where
-    same : {A : Type 0} {g f : ℕ} → _≡_ {A = Got A} (bad g) (bad f) → g ≡ f
-    same e = cc
-
     next : (h : Header) (n : ℕ) (y : Got (List Record)) → ((g : ℕ) → y ≡ bad g → IsFault g) → under h n y ≡ bad f → IsFault f
-    next h n (bad g) k e = rw (sym (same e)) (k g refl)
+    next h n (bad g) k e = rw (sym (same-fault e)) (k g refl)
     next h n (good rs m) k e = let z : _≡_ {A = ℕ} 0 1 = cc in absurd (omega arith)
 
     go : (x : Got Header) → readHeader l ≡ x → behindHeader l x ≡ bad f → IsFault f
-    go (bad g) d e = rw (sym (same e)) (header-faults l g d)
+    go (bad g) d e = rw (sym (same-fault e)) (header-faults l g d)
     go (good h n) d e = next h n (readRecords 0 (drop n l)) (records-faults 0 (drop n l)) e
 
 -- ---- THE READER answers for every sequence of bytes

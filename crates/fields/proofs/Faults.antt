@@ -12,6 +12,7 @@ use Rattle.number.specs.declared.Found.the-variants.{Number, Bad, Short}
 use Rattle.number.specs.Septets.{reads}
 use Rattle.fields.specs.Got.{Got, good, bad, beside, before, readBoth, mapped, grown, further, readAll}
 use Rattle.fields.specs.Field.{judged, readNumber, faultIn, readBytes, moved, bytesBehind, readText}
+use Rattle.fields.proofs.Law.{same-fault}
 
 -- each fault that the reading gives is one of P
 abbrev pub Only : {A : Type 0} → (ℕ → Type 0) → (List ℕ → Got A) → Type 0
@@ -19,9 +20,6 @@ Only P read = (l : List ℕ) (f : ℕ) → read l ≡ bad f → P f
 
 no-fault : {A B : Type 0} {a : A} {n f : ℕ} → good a n ≡ bad f → B
 no-fault e = let z : _≡_ {A = ℕ} 0 1 = cc in absurd (omega arith)
-
-same-fault : {A : Type 0} {f g : ℕ} → _≡_ {A = Got A} (bad f) (bad g) → f ≡ g
-same-fault e = cc
 
 module _ (P : ℕ → Type 0) where
   -- the faults of a judge

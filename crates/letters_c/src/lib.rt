@@ -102,7 +102,6 @@ fn is_ach(w: &[u8], at: usize) -> bool
         !(at < 1)
             & !((at < 2) | windows::vowel_behind(w, at, 2))
             & !((0 < at) & !ach)
-            & !(at < 2)
             & (!(windows::char_ahead(w, at, 2, b'I') | windows::char_ahead(w, at, 2, b'E'))
                 | windows::behind(w, at, 2, 6, b"BACHERMACHER"))
     } else {

@@ -1,5 +1,7 @@
 -- Laws of this crate's letters.
 --     Ways       each letter's cases are the ways through its tree
+--     FirstJ     a first J behind the Spanish names
 --     NoChoice   no public function's promise leaves a choice
 pub mod Ways
+pub mod FirstJ
 pub mod NoChoice

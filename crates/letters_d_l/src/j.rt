@@ -1,11 +1,12 @@
 // J.
 use rules::Add;
 use rules::Visit;
+ghost use mathlib.Core.Bool.{false};
 ghost use mathlib.Core.Path.{_≡_};
 ghost use Rattle.windows.specs.Text.{upper};
 ghost use Rattle.rules.specs.Cond.{holds, marked, plain};
 ghost use Rattle.rules.specs.Case.{first};
-ghost use Rattle.rules.specs.CasesDL.{casesJ, spanish, spanishH, firstJ, betweenVowels, plainJ};
+ghost use Rattle.rules.specs.CasesDL.{casesJ, spanish, spanishH, betweenVowels, plainJ};
 ghost use Rattle.rules.specs.Tree.{run};
 ghost use Rattle.letters_d_l.specs.Trees.{treeJOther};
 
@@ -23,12 +24,13 @@ pub fn handle_j(w: &[u8], at: usize, slavo: bool) -> Visit
     }
 }
 
-// J in no Spanish name.
+// J in no Spanish name, so in no JOSE, which the Rust asks again where J stands first.
 fn handle_j_other(w: &[u8], at: usize, slavo: bool) -> Visit
+    requires { ⌜ holds spanish (upper (now w)) at plain ≡ false ⌝ }
     ensures { λ r. ⌜ r ≡ run treeJOther (upper (now (w .entry))) at (marked slavo) ⌝ }
 {
     let over = rules::one_if(windows::char_ahead(w, at, 1, b'J'));
-    if is_first_j(w, at) {
+    if at == 0 {
         Visit::split(Add::One(b'J'), Add::One(b'A'), over)
     } else if is_between_vowels(w, at, slavo) {
         Visit::split(Add::One(b'J'), Add::One(b'H'), over)
@@ -53,12 +55,6 @@ fn is_spanish_h(w: &[u8], at: usize) -> bool
 {
     ((at == 0) & windows::char_ahead(w, at, 4, b' ') | windows::has_length(w, 4))
         | windows::front(w, 4, b"SAN ")
-}
-
-fn is_first_j(w: &[u8], at: usize) -> bool
-    ensures { λ r. ⌜ r ≡ holds firstJ (upper (now (w .entry))) at plain ⌝ }
-{
-    (at == 0) & !windows::ahead(w, at, 0, 4, b"JOSE")
 }
 
 fn is_between_vowels(w: &[u8], at: usize, slavo: bool) -> bool

@@ -2,11 +2,12 @@
 // is the first of its cases that holds; a branch's function promises its tree (specs/Trees.antt), a test's its condition.
 use rules::Add;
 use rules::Visit;
+ghost use mathlib.Core.Bool.{true};
 ghost use mathlib.Core.Path.{_≡_};
 ghost use Rattle.windows.specs.Text.{upper};
 ghost use Rattle.rules.specs.Cond.{holds, marked, plain};
 ghost use Rattle.rules.specs.Case.{first};
-ghost use Rattle.rules.specs.CasesG.{casesG, afterConsonant, parker, laugh, afterOther, gnSecond, gnOther, gli, gerFirst, ger, biaggi, germanic};
+ghost use Rattle.rules.specs.CasesG.{casesG, afterConsonant, parker, laugh, afterOther, GN, gnSecond, gnOther, gli, gerFirst, ger, biaggi, germanic};
 ghost use Rattle.rules.specs.Tree.{run};
 ghost use Rattle.letters_g.specs.Trees.{treeGH, treeGN, treeGGI, treeGLast};
 
@@ -51,6 +52,7 @@ fn handle_g_last(w: &[u8], at: usize) -> Visit
 }
 
 fn handle_gn(w: &[u8], at: usize, slavo: bool) -> Visit
+    requires { ⌜ holds GN (upper (now w)) at plain ≡ true ⌝ }
     ensures { λ r. ⌜ r ≡ run treeGN (upper (now (w .entry))) at (marked slavo) ⌝ }
 {
     if is_gn_second(w, at, slavo) {
@@ -80,10 +82,12 @@ fn is_gn_second(w: &[u8], at: usize, slavo: bool) -> bool
     (at == 1) & windows::vowel_ahead(w, 0, 0) & !slavo
 }
 
+// The Rust asks whether the byte ahead is no Y; it is N.
 fn is_gn_other(w: &[u8], at: usize, slavo: bool) -> bool
+    requires { ⌜ holds GN (upper (now w)) at plain ≡ true ⌝ }
     ensures { λ r. ⌜ r ≡ holds gnOther (upper (now (w .entry))) at (marked slavo) ⌝ }
 {
-    !windows::ahead(w, at, 2, 2, b"EY") & !windows::char_ahead(w, at, 1, b'Y') & !slavo
+    !windows::ahead(w, at, 2, 2, b"EY") & !slavo
 }
 
 fn is_gli(w: &[u8], at: usize, slavo: bool) -> bool

@@ -137,15 +137,11 @@ fn is_sugar(w: &[u8], at: usize) -> bool
     }
 }
 
-// Italian and Armenian.
+// Italian and Armenian. The Rust asks for SIAN too, which begins with SIA.
 fn is_sio(w: &[u8], at: usize) -> bool
     ensures { λ r. ⌜ r ≡ holds SIO (upper (now (w .entry))) at plain ⌝ }
 {
-    if windows::ahead(w, at, 0, 3, b"SIOSIA") {
-        true
-    } else {
-        windows::ahead(w, at, 0, 4, b"SIAN")
-    }
+    windows::ahead(w, at, 0, 3, b"SIOSIA")
 }
 
 // German and its anglicised forms ("smith", "schmidt"; "snider", "schneider"), and -sz- in Slavic languages.

@@ -3,6 +3,7 @@
 --     Tree       a tree and its ways answer alike; `said (search says)` closes a rule's return
 --     Row        the cases of a byte, as the arms of a match on it
 --     Next       what the next byte alone settles, and a tree without it
+--     Idle       tests that no word makes matter
 --     Each       a fact that every case of the table has, every visit has
 --     Bound      an addition has at most two bytes, and at most three bytes are passed over
 --     Front      at place 0 a second byte is added only where a byte that stands there is passed over
@@ -13,6 +14,7 @@ pub mod Mode
 pub mod Tree
 pub mod Row
 pub mod Next
+pub mod Idle
 pub mod Each
 pub mod Bound
 pub mod Front

@@ -14,7 +14,7 @@ use lib.ListN.{length, getD, take, drop, List·getD-eq-default}
 use lib.Seq.{ext-getD, getD-take, getD-drop}
 use Rattle.windows.specs.Text.{bytes}
 use Rattle.windows.specs.Window.{isAt, sees, byteAt, endsAfter, stepBack, among}
-use Rattle.windows.proofs.Facts.{no, both, either, isAt-true, isAt-yes, window-length}
+use Rattle.windows.proofs.Facts.{no, both, either, neither, isAt-true, isAt-yes, window-length}
 use Rattle.rules.specs.Cond.{Spot, ahead, back, front, rear, Cond, Mode, always, window, byte, vowel, place, past, below, left, long, slavo, non, _&_, _or_, holds}
 use Rattle.rules.specs.Case.{Case, first}
 use Rattle.rules.specs.Tree.{Tree, say, ask, run, ways}
@@ -215,10 +215,6 @@ Letters ks = among ks 0 ≡ false
 abbrev singles : List ℕ → List (List ℕ)
 singles ks = map (λ (k : ℕ). k ∷ []) ks
 
-pub neither : (a b : Bool) → (a || b) ≡ false → (a ≡ false) × (b ≡ false)
-neither true b e = absurd (false≢true (sym e))
-neither false b e = (refl, e)
-
 module _ (u : List ℕ) (q : ℕ) where
   hit : (k : ℕ) → isAt u q 1 (k ∷ []) ≡ true → getD u q 0 ≡ k
   hit k e =
@@ -268,7 +264,3 @@ pub by-next : (may : ℕ → Bool) (on? : Bool) (t : Tree) (u : List ℕ) (p : �
     → v ≡ first cs u p m
 by-next may on? t u p m e h on i =
     i ∙ pruned-run may on? u p h on t m ∙ sym (ways-run t u p m) ∙ ap (λ (ds : List Case). first ds u p m) e
-
--- of two things known of it
-pub also : (a b : Bool) → a ≡ true → b ≡ true → (a && b) ≡ true
-also a b h k = simp (h, k)

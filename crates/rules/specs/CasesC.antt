@@ -4,7 +4,7 @@ use mathlib.Core.List.{List, [], _∷_}
 use Rattle.rules.specs.Cond.{Cond, always, window, byte, vowel, place, past, below, left, non, _&_, _or_, ahead, back, front}
 use Rattle.rules.specs.Case.{Case, case}
 
--- the third test of the place, the second below 2, never matters; it stands as in the Rust
+-- the third test of the place, the second below 2, never matters (`below-idle`, proofs/Idle.antt); it stands as in the Rust
 abbrev pub ach : Cond
 ach =
     non (below 1)

@@ -38,7 +38,7 @@ spanish = JOSE or SAN
 abbrev pub spanishH : Cond
 spanishH = (place 0 & byte (ahead 4) " " or long 4) or SAN
 
--- no JOSE comes here, so its test never matters; it stands as in the Rust
+-- no JOSE comes here, so its test never matters (`jose-idle`, proofs/Idle.antt); it stands as in the Rust
 abbrev pub firstJ : Cond
 firstJ = place 0 & non JOSE
 

@@ -31,7 +31,7 @@ GN = next "N"
 abbrev pub gnSecond : Cond
 gnSecond = place 1 & vowel (front 0) & non slavo
 
--- the byte ahead is N, so the Y test never matters; it stands as in the Rust
+-- the byte ahead is N, so the Y test never matters (`y-idle`, proofs/Idle.antt); it stands as in the Rust
 abbrev pub gnOther : Cond
 gnOther = non (window (ahead 2) 2 ("EY" ∷ [])) & non (next "Y") & non slavo
 

@@ -17,7 +17,7 @@ SH = window (ahead 0) 2 ("SH" ∷ [])
 abbrev pub germanicSH : Cond
 germanicSH = window (ahead 1) 4 ("HEIM" ∷ "HOEK" ∷ "HOLM" ∷ "HOLZ" ∷ [])
 
--- Italian and Armenian; SIAN begins with SIA and never matters, and stands as in the Rust
+-- Italian and Armenian; SIAN begins with SIA and never matters (`sian-idle`, proofs/Idle.antt); it stands as in the Rust
 abbrev pub SIO : Cond
 SIO = window (ahead 0) 3 ("SIO" ∷ "SIA" ∷ []) or window (ahead 0) 4 ("SIAN" ∷ [])
 

@@ -3,7 +3,7 @@ use Prim.Native.Nat.{ℕ, zero, suc, _+_, _≤_, _<_}
 use mathlib.Core.Path.{_≡_, refl, sym, ap, ap₂, _∙_}
 use mathlib.Core.List.{List, [], _∷_}
 use mathlib.Core.Logic.{⊎-elim}
-use mathlib.Core.Bool.{Bool, true, false, not, cond, _&&_, _||_, and-true, or-false}
+use mathlib.Core.Bool.{Bool, true, false, false≢true, not, cond, _&&_, _||_, and-true, or-false}
 use native.Mathlib.Nat.{zero-add, add-zero, eq-or-lt-of-le, le-of-suc-le-suc}
 use native.Mathlib.Numerals.{add-one}
 use native.Mathlib.Omega.{arith}
@@ -14,8 +14,8 @@ use lib.ListN.{length, getD, take, drop, length-drop, drop-of-length-le}
 use lib.Seq.{drop-cons}
 use Rattle.windows.specs.Text.{bytes, up, upper, same}
 use Rattle.windows.specs.Window.{isAt}
-use Rattle.windows.proofs.Facts.{both, window-differs, length-upper, getD-upper}
-use Rattle.walk.specs.Word.{beginsOne, hasOne, markTexts, slavoGermanic}
+use Rattle.windows.proofs.Facts.{both, isAt-begins, length-upper, getD-upper}
+use Rattle.walk.specs.Word.{beginsOne, hasOne, markTexts, markTextsBrief, slavoGermanic}
 
 -- ---- small letters
 -- two tests that antt finds alike at each number below `n` are alike there
@@ -38,13 +38,6 @@ alike-at f g (suc n) k e h =
 small : (c : ℕ) → alike (λ x. eqb (bitOr x 32) (c + 32)) (λ x. eqb (up x) c) 256 ≡ true → (x : ℕ) → x < 256 → eqb (bitOr x 32) (c + 32) ≡ eqb (up x) c
 small c e x h = alike-at (λ x. eqb (bitOr x 32) (c + 32)) (λ x. eqb (up x) c) 256 x e h
 
--- WITZ begins with a W
-pub no-witz : (w : List ℕ) (i b : ℕ) → getD w i 0 < 256 → b ≡ bitOr (getD w i 0) 32 → (b ≡ 119 → ⊥) → false ≡ isAt (upper w) i 4 (bytes "WITZ")
-unfolding up
-no-witz w i b byte is h =
-    sym (window-differs w i 4 (bytes "WITZ") 0 (omega arith) (λ e.
-    h (is ∙ eqb-true _ _ (small 87 refl (getD w i 0) byte ∙ eq-eqb _ _ (rw (add-zero i) at e)))))
-
 -- ---- a text of one byte, and of two, at the front
 one-there : (b x : ℕ) (r : List ℕ) → isAt (b ∷ r) 0 1 (x ∷ []) ≡ eqb b x
 unfolding isAt same
@@ -59,27 +52,41 @@ two-there b x y [] e = rw e (none (eqb b x))
     none false = refl
 two-there b x y (d ∷ r) e = simp (le-leb 2 (suc (suc (length r))) (omega arith), and-true)
 
--- ---- the four texts at the front
-four-tests : (w k c t : Bool) → (w || (k || (c || (t || false)))) ≡ (((w || t) || k) || c)
-four-tests true k c t = refl
-four-tests false true c true = refl
-four-tests false true c false = refl
-four-tests false false true true = refl
-four-tests false false true false = refl
-four-tests false false false true = refl
-four-tests false false false false = refl
+-- ---- WITZ beside W
+pub witz-is-w : (u : List ℕ) → isAt u 0 4 (bytes "WITZ") ≡ true → isAt u 0 1 (bytes "W") ≡ true
+witz-is-w u e = isAt-begins u 0 4 1 (bytes "WITZ") (omega arith) e
 
-begins-marked : (b : ℕ) (r : List ℕ)
-    → beginsOne markTexts (b ∷ r) ≡ (((eqb b 87 || isAt (b ∷ r) 0 4 (bytes "WITZ")) || eqb b 75) || (eqb b 67 && eqb (getD r 0 0) 90))
+begins-brief : (u : List ℕ) → beginsOne markTexts u ≡ beginsOne markTextsBrief u
+unfolding beginsOne
+begins-brief u = or-last (isAt u 0 1 (bytes "W")) (isAt u 0 1 (bytes "K")) (isAt u 0 2 (bytes "CZ")) (isAt u 0 4 (bytes "WITZ")) (witz-is-w u)
+  where
+    or-last : (w k c t : Bool) → (t ≡ true → w ≡ true) → (w || (k || (c || (t || false)))) ≡ (w || (k || (c || false)))
+    or-last true k c t h = refl
+    or-last false k c true h = absurd (false≢true (h refl))
+    or-last false k c false h = refl
+
+-- no word has the mark by WITZ alone
+pub witz-idle : (u : List ℕ) → hasOne markTexts u ≡ hasOne markTextsBrief u
+unfolding hasOne
+witz-idle [] = refl
+witz-idle (b ∷ u) = ap₂ _||_ (begins-brief (b ∷ u)) (witz-idle u)
+
+-- ---- the three texts at the front
+begins-marked : (b : ℕ) (r : List ℕ) → beginsOne markTextsBrief (b ∷ r) ≡ ((eqb b 87 || eqb b 75) || (eqb b 67 && eqb (getD r 0 0) 90))
 unfolding beginsOne
 begins-marked b r =
     rw (one-there b 87 r, one-there b 75 r, two-there b 67 90 r refl)
-    (four-tests (eqb b 87) (eqb b 75) (eqb b 67 && eqb (getD r 0 0) 90) (isAt (b ∷ r) 0 4 (bytes "WITZ")))
+    (three-tests (eqb b 87) (eqb b 75) (eqb b 67 && eqb (getD r 0 0) 90))
+  where
+    three-tests : (w k c : Bool) → (w || (k || (c || false))) ≡ ((w || k) || c)
+    three-tests true k c = refl
+    three-tests false true c = refl
+    three-tests false false c = or-false c
 
 -- ---- what a scan with the byte before it at hand finds
 unfoldable pub scan : Bool → List ℕ → Bool
 scan c [] = false
-scan c (b ∷ u) = (((eqb b 87 || isAt (b ∷ u) 0 4 (bytes "WITZ")) || eqb b 75) || (eqb b 90 && c)) || scan (eqb b 67) u
+scan c (b ∷ u) = ((eqb b 87 || eqb b 75) || (eqb b 90 && c)) || scan (eqb b 67) u
 
 -- a CZ may be seen at its Z or at its C
 seen-at : (a z c h r : Bool) → ((a || (z && c)) || (h || r)) ≡ ((c && z) || ((a || h) || r))
@@ -92,7 +99,7 @@ seen-at false true false h r = refl
 seen-at false false true h r = refl
 seen-at false false false h r = refl
 
-scan-has : (c : Bool) (u : List ℕ) → scan c u ≡ ((c && eqb (getD u 0 0) 90) || hasOne markTexts u)
+scan-has : (c : Bool) (u : List ℕ) → scan c u ≡ ((c && eqb (getD u 0 0) 90) || hasOne markTextsBrief u)
 unfolding scan hasOne
 scan-has c [] = none c
   where
@@ -100,9 +107,9 @@ scan-has c [] = none c
     none true = refl
     none false = refl
 scan-has c (b ∷ u) =
-    ap (λ (q : Bool). (((eqb b 87 || isAt (b ∷ u) 0 4 (bytes "WITZ")) || eqb b 75) || (eqb b 90 && c)) || q) (scan-has (eqb b 67) u)
-    ∙ seen-at ((eqb b 87 || isAt (b ∷ u) 0 4 (bytes "WITZ")) || eqb b 75) (eqb b 90) c (eqb b 67 && eqb (getD u 0 0) 90) (hasOne markTexts u)
-    ∙ ap (λ (q : Bool). (c && eqb b 90) || (q || hasOne markTexts u)) (sym (begins-marked b u))
+    ap (λ (q : Bool). ((eqb b 87 || eqb b 75) || (eqb b 90 && c)) || q) (scan-has (eqb b 67) u)
+    ∙ seen-at (eqb b 87 || eqb b 75) (eqb b 90) c (eqb b 67 && eqb (getD u 0 0) 90) (hasOne markTextsBrief u)
+    ∙ ap (λ (q : Bool). (c && eqb b 90) || (q || hasOne markTextsBrief u)) (sym (begins-marked b u))
 
 -- what was found, and what the scan from place `i` on finds behind the small letter `last`
 abbrev pub Found : List ℕ → ℕ → ℕ → Bool → Type 0
@@ -115,29 +122,18 @@ found-more : (f h r : Bool) → ((f || h) || r) ≡ (f || (h || r))
 found-more true h r = refl
 found-more false h r = refl
 
--- a window at a place is the window at the front of what stands there
-here : (u : List ℕ) (i n : ℕ) (t : List ℕ) → i ≤ length u → isAt u i n t ≡ isAt (drop i u) 0 n t
-unfolding isAt
-here u i n t h = ap (λ (q : Bool). q && same (take n (drop i u)) t) (fits (leb n (length (drop i u))) refl)
-  where
-    fits : (q : Bool) → leb n (length (drop i u)) ≡ q → leb (i + n) (length u) ≡ leb (0 + n) (length (drop i u))
-    fits true e = let l = leb-true n (length (drop i u)) e in rw (zero-add, e) (le-leb (i + n) (length u) (omega (arith, length-drop i u)))
-    fits false e = let l = leb-false n (length (drop i u)) e in rw (zero-add, e) (lt-leb (i + n) (length u) (omega (arith, length-drop i u)))
-
-pub scan-turn : (w : List ℕ) (i last : ℕ) (q found : Bool) → i < length w → getD w i 0 < 256
-    → q ≡ (eqb (bitOr (getD w i 0) 32) 119 || isAt (upper w) i 4 (bytes "WITZ")) → Found w i last found
-    → Found w (i + 1) (bitOr (getD w i 0) 32) (found || ((q || eqb (bitOr (getD w i 0) 32) 107) || (eqb (bitOr (getD w i 0) 32) 122 && eqb last 99)))
+pub scan-turn : (w : List ℕ) (i last : ℕ) (found : Bool) → i < length w → getD w i 0 < 256 → Found w i last found
+    → Found w (i + 1) (bitOr (getD w i 0) 32)
+    (found || ((eqb (bitOr (getD w i 0) 32) 119 || eqb (bitOr (getD w i 0) 32) 107) || (eqb (bitOr (getD w i 0) 32) 122 && eqb last 99)))
 unfolding scan up
-scan-turn w i last q found h byte eq inv =
+scan-turn w i last found h byte inv =
     let b : ℕ = up (getD w i 0) in
     let k : i < length (upper w) = rw length-upper h in
     let c : drop i (upper w) ≡ b ∷ drop (i + 1) (upper w) =
     rw add-one (drop-cons (upper w) i 0 k ∙ ap (λ (x : ℕ). x ∷ drop (suc i) (upper w)) (getD-upper w i)) in
-    let n : q ≡ (eqb b 87 || isAt (b ∷ drop (i + 1) (upper w)) 0 4 (bytes "WITZ")) =
-    eq ∙ ap₂ _||_ (small 87 refl (getD w i 0) byte) (here (upper w) i 4 (bytes "WITZ") (omega arith) ∙ ap (λ (u : List ℕ). isAt u 0 4 (bytes "WITZ")) c) in
     found-more found _ _
     ∙ ap (λ (x : Bool). found || x)
-    (ap₂ _||_ (ap₂ _||_ (ap₂ _||_ n (small 75 refl (getD w i 0) byte)) (ap (λ (x : Bool). x && eqb last 99) (small 90 refl (getD w i 0) byte)))
+    (ap₂ _||_ (ap₂ _||_ (ap₂ _||_ (small 87 refl (getD w i 0) byte) (small 75 refl (getD w i 0) byte)) (ap (λ (x : Bool). x && eqb last 99) (small 90 refl (getD w i 0) byte)))
     (ap (λ (x : Bool). scan x (drop (i + 1) (upper w))) (small 67 refl (getD w i 0) byte)))
     ∙ ap (λ (u : List ℕ). found || scan (eqb last 99) u) (sym c) ∙ inv
 
@@ -146,4 +142,4 @@ unfolding scan slavoGermanic
 scan-end w i last found h inv =
     let l : length (upper w) ≤ i = rw length-upper h in
     let e : drop i (upper w) ≡ [] = drop-of-length-le (upper w) l in
-    sym (or-false found) ∙ ap (λ (u : List ℕ). found || scan (eqb last 99) u) (sym e) ∙ inv ∙ scan-has false (upper w)
+    sym (or-false found) ∙ ap (λ (u : List ℕ). found || scan (eqb last 99) u) (sym e) ∙ inv ∙ scan-has false (upper w) ∙ sym (witz-idle (upper w))

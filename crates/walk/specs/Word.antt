@@ -25,6 +25,10 @@ hasOne ts (b ∷ u) = beginsOne ts (b ∷ u) || hasOne ts u
 abbrev pub markTexts : List (List ℕ)
 markTexts = map bytes ("W" ∷ "K" ∷ "CZ" ∷ "WITZ" ∷ [])
 
+-- without WITZ, which begins with W, so that no word tells the two apart (`witz-idle`, proofs/Word.antt); the code asks these
+abbrev pub markTextsBrief : List (List ℕ)
+markTextsBrief = map bytes ("W" ∷ "K" ∷ "CZ" ∷ [])
+
 unfoldable pub slavoGermanic : List ℕ → Bool
 slavoGermanic u = hasOne markTexts u
 

@@ -8,7 +8,7 @@ use native.Mathlib.Omega.{arith}
 use borrow.Author.Tests.{leb-true, le-leb, eqb-true, eqb-false, eq-eqb, ne-eqb, lt-ltb, le-ltb}
 use lib.Dec.{leb, eqb}
 use lib.ListN.{length, getD, take, drop, length-map, length-take, length-drop, List·getD-map}
-use lib.Seq.{ext-getD, getD-take, getD-drop}
+use lib.Seq.{ext-getD, getD-take, getD-drop, take-take}
 use Rattle.windows.specs.Text.{up, upper, same}
 use Rattle.windows.specs.Window.{isAt, sees, byteAt, cut, texts, among, vowel, vowelAt, endsAfter, isLong}
 use types.Run.{OneOf}
@@ -26,6 +26,15 @@ both false b e = absurd (let z : _≡_ {A = ℕ} 0 1 = cc e in omega arith)
 pub either : (a b : Bool) → (a || b) ≡ true → (Q : Type 0) → (a ≡ true → Q) → (b ≡ true → Q) → Q
 either true b e Q f g = f refl
 either false b e Q f g = g e
+
+-- neither half of an `||` that fails holds
+pub neither : (a b : Bool) → (a || b) ≡ false → (a ≡ false) × (b ≡ false)
+neither true b e = absurd (let z : _≡_ {A = ℕ} 0 1 = cc e in omega arith)
+neither false b e = (refl, e)
+
+-- two tests that hold make an `&&` that does
+pub also : (a b : Bool) → a ≡ true → b ≡ true → (a && b) ≡ true
+also a b h k = simp (h, k)
 
 -- a small letter has a capital 32 below it
 pub small-letter : (b : ℕ) → (leb 97 b && leb b 122) ≡ true → 97 ≤ b
@@ -62,6 +71,12 @@ isAt-true u p n t e =
 pub isAt-yes : (u : List ℕ) (p n : ℕ) (t : List ℕ) → p + n ≤ length u → take n (drop p u) ≡ t → isAt u p n t ≡ true
 unfolding isAt
 isAt-yes u p n t h e = simp (le-leb (p + n) (length u) h, e, same-refl t)
+
+-- where a text stands, so does each beginning of it
+pub isAt-begins : (u : List ℕ) (p n j : ℕ) (t : List ℕ) → j ≤ n → isAt u p n t ≡ true → isAt u p j (take j t) ≡ true
+isAt-begins u p n j t h e =
+    let f = isAt-true u p n t e in
+    isAt-yes u p j (take j t) (omega (arith, f .0)) (sym (take-take j n (drop p u) h) ∙ ap (take j) (f .1))
 
 -- a window that fits has `n` bytes
 pub window-length : (u : List ℕ) (p n : ℕ) → p + n ≤ length u → length (take n (drop p u)) ≡ n

@@ -7,7 +7,8 @@ use lib.ListN.{getD}
 use Rattle.windows.specs.Text.{bytes}
 use Rattle.windows.specs.Window.{among}
 use Rattle.rules.specs.Tree.{run}
-use Rattle.rules.proofs.Next.{by-next, is-one, is-none, also}
+use Rattle.windows.proofs.Facts.{also}
+use Rattle.rules.proofs.Next.{by-next, is-one, is-none}
 use Rattle.letters_c.specs.Trees.{treeCH, treeCC, treeCLast, treeCNext, treeC, treeCBeforeH, treeCBefore}
 use Rattle.letters_c.proofs.Ways.{ways-C}
 use Rattle.letters_c.proofs.handle_c.Statement.{statement}

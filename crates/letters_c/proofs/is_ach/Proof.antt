@@ -1,7 +1,9 @@
--- `letters_c::is_ach` meets its contract: its expression is the condition. Assumes nothing.
+-- `letters_c::is_ach` meets its contract: its expression is the condition but for the second place-below-2 test, which never
+-- matters. Assumes nothing.
 use mathlib.Core.Path.{refl, sym, _∙_}
 use Rattle.windows.specs.Text.{upper}
 use Rattle.rules.specs.Cond.{holds, plain}
+use Rattle.rules.proofs.Idle.{ach-once}
 use Rattle.letters_c.proofs.Ach.{ach-no}
 use Rattle.letters_c.proofs.is_ach.Statement.{statement}
 use Rattle.letters_c.proofs.is_ach.Tie as tie
@@ -16,7 +18,9 @@ is-ach-spec =
     (λ c κs. tt)
     (λ c κs. tt)
     (λ c. refl) (λ c κs. tt)
-    (λ c. cc)
+    (λ c.
+    let args = c .before .before .before .before .before .before .before .before .before .args in
+    rw (ach-once (upper (args .w .now)) (args .at) plain) (cc))
     (λ c.
     let args = c .before .before .before .before .args in
     ach-no (upper (args .w .now)) (args .at) plain (sym (c .before .behind .ensures) ∙ c .if1 .left)))

@@ -1,4 +1,5 @@
 -- `letters_g::handle_g_before` meets its contract: at each return the tests on the way lead the tree there. Assumes nothing.
+use mathlib.Core.Path.{sym, _∙_}
 use Rattle.rules.specs.Cond.{holds}
 use Rattle.rules.proofs.Tree.{spoken, says-marked}
 use Rattle.letters_g.specs.Trees.{treeG, treeGH, treeGN, treeGLast, treeGGI}
@@ -14,7 +15,7 @@ handle-g-before-spec =
     (λ c κs. tt)
     (λ c κs. tt)
     (λ c κs. tt)
-    (λ c κs. tt)
+    (λ c κs. sym (c .before .char-ahead2 .ensures) ∙ c .if2 .taken)
     (λ c κs. tt)
     (λ c κs. tt)
     (λ c κs. tt)

@@ -12,7 +12,7 @@ handle-gn-spec =
     (tie.spec
     (λ c κs. tt)
     (λ c κs. tt)
-    (λ c κs. tt)
+    (λ c κs. c .before .before .before .pre)
     (λ c κs. tt)
     (λ c κs. tt)
     (λ c. said (search says-marked depth 14))

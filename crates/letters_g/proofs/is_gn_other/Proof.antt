@@ -1,6 +1,9 @@
--- `letters_g::is_gn_other` meets its contract: its expression is the condition. Assumes nothing.
+-- `letters_g::is_gn_other` meets its contract: its expression is the condition but for the Y test, which never matters
+-- before N. Assumes nothing.
 use mathlib.Core.Path.{refl}
-use Rattle.rules.specs.Cond.{holds}
+use Rattle.windows.specs.Text.{upper}
+use Rattle.rules.specs.Cond.{holds, marked}
+use Rattle.rules.proofs.Idle.{gn-other}
 use Rattle.letters_g.proofs.is_gn_other.Statement.{statement}
 use Rattle.letters_g.proofs.is_gn_other.Tie as tie
 
@@ -10,5 +13,6 @@ is-gn-other-spec =
     tie.close
     (tie.spec
     (λ c. refl) (λ c κs. tt)
-    (λ c κs. tt)
-    (λ c. cc))
+    (λ c.
+    let start = c .before .before .before in
+    rw (gn-other (upper (start .args .w .now)) (start .args .at) (marked (start .args .slavo)) (start .pre)) (cc)))

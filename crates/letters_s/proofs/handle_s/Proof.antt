@@ -6,7 +6,8 @@ use mathlib.Core.Bool.{true, not}
 use Rattle.windows.specs.Text.{bytes}
 use Rattle.windows.specs.Window.{among}
 use Rattle.rules.specs.Tree.{run}
-use Rattle.rules.proofs.Next.{by-next, is-none, neither}
+use Rattle.windows.proofs.Facts.{neither}
+use Rattle.rules.proofs.Next.{by-next, is-none}
 use Rattle.letters_s.specs.Trees.{treeSH, treeSIO, treeSCH, treeSC, treeSLast, treeSNext, treeS}
 use Rattle.letters_s.proofs.Ways.{ways-S}
 use Rattle.letters_s.proofs.handle_s.Statement.{statement}

@@ -1,6 +1,7 @@
--- `letters_s::is_sio` meets its contract: its expression is the condition. Assumes nothing.
-use mathlib.Core.Path.{refl}
-use Rattle.rules.specs.Cond.{holds}
+-- `letters_s::is_sio` meets its contract: its expression is the condition but for SIAN, which never matters. Assumes nothing.
+use mathlib.Core.Path.{refl, sym, _∙_}
+use Rattle.rules.specs.Cond.{holds, plain}
+use Rattle.rules.proofs.Idle.{sio}
 use Rattle.letters_s.proofs.is_sio.Statement.{statement}
 use Rattle.letters_s.proofs.is_sio.Tie as tie
 
@@ -10,6 +11,4 @@ is-sio-spec =
     tie.close
     (tie.spec
     (λ c. refl) (λ c κs. tt)
-    (λ c. refl) (λ c κs. tt)
-    (λ c. rw (← c .before .ahead .ensures) (rw (c .if1 .taken) refl))
-    (λ c. rw (← c .before .before .before .ahead .ensures) (rw (c .before .before .if1 .left) (cc))))
+    (λ c. c .ahead .ensures ∙ sym (sio _ _ plain)))

@@ -1,4 +1,5 @@
 -- `letters_d_l::j::handle_j` meets its contract: at each return the tests on the way lead the tree there. Assumes nothing.
+use mathlib.Core.Path.{sym, _∙_}
 use Rattle.rules.specs.Cond.{holds}
 use Rattle.rules.proofs.Tree.{spoken, says-marked}
 use Rattle.letters_d_l.specs.Trees.{treeJ, treeJOther}
@@ -15,7 +16,7 @@ handle-j-spec =
     (λ c κs. tt)
     (λ c κs. tt)
     (λ c κs. tt)
-    (λ c κs. tt)
+    (λ c κs. sym (c .before .is-spanish .ensures) ∙ c .if1 .left)
     (λ c. spoken ways-J (search says-marked depth 14))
     (λ c. spoken ways-J (search says-marked depth 14))
     (λ c. spoken ways-J (search says-marked depth 14)))

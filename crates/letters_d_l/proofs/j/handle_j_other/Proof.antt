@@ -1,7 +1,8 @@
 -- `letters_d_l::j::handle_j_other` meets its contract: at each return the tests on the way lead the tree there. Assumes nothing.
 use Rattle.rules.specs.Cond.{holds}
-use Rattle.rules.proofs.Tree.{said, says-marked}
+use Rattle.rules.proofs.Tree.{said}
 use Rattle.letters_d_l.specs.Trees.{treeJOther}
+use Rattle.letters_d_l.proofs.FirstJ.{says-first}
 use Rattle.letters_d_l.proofs.j.handle_j_other.Statement.{statement}
 use Rattle.letters_d_l.proofs.j.handle_j_other.Tie as tie
 
@@ -20,9 +21,8 @@ handle-j-other-spec =
     (λ c κs. tt)
     (λ c κs. tt)
     (λ c κs. tt)
-    (λ c κs. tt)
-    (λ c. said (search says-marked depth 14))
-    (λ c. said (search says-marked depth 14))
-    (λ c. said (search says-marked depth 14))
-    (λ c. said (search says-marked depth 14))
-    (λ c. said (search says-marked depth 14)))
+    (λ c. said (search says-first depth 14))
+    (λ c. said (search says-first depth 14))
+    (λ c. said (search says-first depth 14))
+    (λ c. said (search says-first depth 14))
+    (λ c. said (search says-first depth 14)))

@@ -26,5 +26,5 @@ is-slavo-germanic-spec =
     (λ c. search needs)
     (λ c.
     let h = c .before .before .before in
-    scan-turn _ _ (h .loop .last) _ (h .loop .found) (c .before .before .loop-test .taken) (c .before .shared-slice-known2 .given (h .loop .i) .fits) (c .has-w-or-witz .ensures) (h .loop .inv))
+    scan-turn _ _ (h .loop .last) (h .loop .found) (c .before .before .loop-test .taken) (c .before .shared-slice-known2 .given (h .loop .i) .fits) (h .loop .inv))
     (λ c. scan-end _ _ (c .before .loop .last) _ (c .loop-test .left) (c .before .loop .inv)))

@@ -11,12 +11,12 @@ use lib.Dec.{ltb, eqb}
 use lib.ListN.{length, getD}
 use Rattle.windows.specs.Text.{bytes}
 use Rattle.windows.specs.Window.{isAt, sees, byteAt}
-use Rattle.windows.proofs.Facts.{both, either, neither, isAt-begins}
-use Rattle.rules.specs.Cond.{Cond, Mode, window, vowel, place, below, slavo, non, _&_, _or_, ahead, back, holds}
+use Rattle.windows.proofs.Facts.{both, neither, isAt-begins}
+use Rattle.rules.specs.Cond.{Cond, Mode, window, vowel, below, slavo, non, _&_, _or_, ahead, back, holds}
 use Rattle.rules.specs.Case.{Case, case, gives, first}
 use Rattle.rules.specs.Plain.{next}
 use Rattle.rules.specs.CasesC.{casesC, ach, conditionC0}
-use Rattle.rules.specs.CasesDL.{casesJ, JOSE, SAN, spanish, spanishH, firstJ}
+use Rattle.rules.specs.CasesDL.{casesJ, JOSE, SAN, spanish, firstJ}
 use Rattle.rules.specs.CasesG.{casesG, GN, gnOther}
 use Rattle.rules.specs.CasesS.{casesS, SIO}
 use Rattle.rules.specs.Idle.{asking, Alike, gnOtherBrief, sioBrief, achBrief, firstJBrief}

@@ -2,8 +2,6 @@
 use Prim.Native.Nat.{ℕ}
 use mathlib.Core.Path.{_≡_, refl, sym, _∙_}
 use mathlib.Core.Bool.{Bool, true, false, false≢true, not, _&&_}
-use mathlib.Core.List.{List}
-use lib.ListN.{getD}
 use Rattle.windows.specs.Text.{bytes}
 use Rattle.windows.specs.Window.{among}
 use Rattle.rules.specs.Tree.{run}

@@ -19,12 +19,11 @@ is-slavo-germanic-spec =
     (tie.spec
     Inv-loop
     μ-loop
-    (λ c. scan-start (c .before .args .w .now))
+    (λ c. scan-start (c .args .w .now))
     (λ c. search needs)
-    (λ c κs. search needs)
     (λ c. search needs)
     (λ c. search needs)
     (λ c.
-    let h = c .before .before .before in
-    scan-turn _ _ (h .loop .last) (h .loop .found) (c .before .before .loop-test .taken) (c .before .shared-slice-known2 .given (h .loop .i) .fits) (h .loop .inv))
+    let h = c .before .before in
+    scan-turn _ _ (h .loop .last) (h .loop .found) (c .before .loop-test .taken) (c .shared-slice-known .given (h .loop .i) .fits) (h .loop .inv))
     (λ c. scan-end _ _ (c .before .loop .last) _ (c .loop-test .left) (c .before .loop .inv)))

@@ -1,6 +1,7 @@
 -- `letters_g::is_gn_other` meets its contract: its expression is the condition but for the Y test, which never matters
 -- before N. Assumes nothing.
-use mathlib.Core.Path.{refl}
+use mathlib.Core.Path.{refl, sym, ap, _∙_}
+use mathlib.Core.Bool.{Bool, not, _&&_}
 use Rattle.windows.specs.Text.{upper}
 use Rattle.rules.specs.Cond.{holds, marked}
 use Rattle.rules.proofs.Idle.{gn-other}
@@ -15,4 +16,5 @@ is-gn-other-spec =
     (λ c. refl) (λ c κs. tt)
     (λ c.
     let start = c .before .before .before in
-    rw (gn-other (upper (start .args .w .now)) (start .args .at) (marked (start .args .slavo)) (start .pre)) (cc)))
+    ap (λ (b : Bool). not b && not (start .args .slavo)) (c .ahead .ensures)
+    ∙ sym (gn-other (upper (start .args .w .now)) (start .args .at) (marked (start .args .slavo)) (start .pre))))

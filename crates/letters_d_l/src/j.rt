@@ -47,7 +47,11 @@ fn handle_j_other(w: &[u8], at: usize, slavo: bool) -> Visit
 fn is_spanish(w: &[u8], at: usize) -> bool
     ensures { λ r. ⌜ r ≡ holds spanish (upper (now (w .entry))) at plain ⌝ }
 {
-    windows::ahead(w, at, 0, 4, b"JOSE") | windows::front(w, 4, b"SAN ")
+    if windows::ahead(w, at, 0, 4, b"JOSE") {
+        true
+    } else {
+        windows::front(w, 4, b"SAN ")
+    }
 }
 
 fn is_spanish_h(w: &[u8], at: usize) -> bool

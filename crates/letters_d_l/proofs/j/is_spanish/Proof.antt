@@ -1,6 +1,9 @@
--- `letters_d_l::j::is_spanish` meets its contract: its expression is the condition. Assumes nothing.
-use mathlib.Core.Path.{refl}
-use Rattle.rules.specs.Cond.{holds}
+-- `letters_d_l::j::is_spanish` meets its contract: where JOSE stands it holds, else SAN tells. Assumes nothing.
+use mathlib.Core.Path.{refl, sym, ap, _∙_}
+use mathlib.Core.Bool.{Bool, _||_}
+use Rattle.windows.specs.Text.{upper}
+use Rattle.rules.specs.Cond.{holds, plain}
+use Rattle.rules.specs.CasesDL.{SAN}
 use Rattle.letters_d_l.proofs.j.is_spanish.Statement.{statement}
 use Rattle.letters_d_l.proofs.j.is_spanish.Tie as tie
 
@@ -11,4 +14,10 @@ is-spanish-spec =
     (tie.spec
     (λ c. refl) (λ c κs. tt)
     (λ c. refl) (λ c κs. tt)
-    (λ c. cc))
+    (λ c.
+    let a = c .before .before .before .before .args in
+    sym (ap (λ (b : Bool). b || holds SAN (upper (a .w .now)) (a .at) plain) (sym (c .before .ahead .ensures) ∙ c .if1 .taken)))
+    (λ c.
+    let a = c .before .before .before .before .before .before .args in
+    c .front .ensures
+    ∙ sym (ap (λ (b : Bool). b || holds SAN (upper (a .w .now)) (a .at) plain) (sym (c .before .before .before .ahead .ensures) ∙ c .before .before .if1 .left))))

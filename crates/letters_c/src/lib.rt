@@ -94,6 +94,7 @@ fn condition_c0(w: &[u8], at: usize) -> bool
     }
 }
 
+// The Rust asks a second time, behind the test for ACH, whether the place is below 2.
 fn is_ach(w: &[u8], at: usize) -> bool
     ensures { λ r. ⌜ r ≡ holds ach (upper (now (w .entry))) at plain ⌝ }
 {

@@ -1,5 +1,4 @@
 -- `letters_c::handle_c_before` meets its contract: at each return the tests on the way lead the tree there. Assumes nothing.
-use mathlib.Core.Path.{refl}
 use Rattle.rules.specs.Cond.{holds}
 use Rattle.rules.proofs.Tree.{said, says}
 use Rattle.letters_c.specs.Trees.{treeCBefore}

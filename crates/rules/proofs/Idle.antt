@@ -2,7 +2,7 @@
 -- is the same without it; and that the letter's cases then answer alike, at every place of every word. Assumes nothing.
 use Prim.Native.Char.{code}
 use Prim.Native.Nat.{ℕ, _+_}
-use mathlib.Core.Bool.{Bool, true, false, cond, not, _&&_, _||_, and-true, and-false, or-true, or-false}
+use mathlib.Core.Bool.{Bool, true, false, cond, not, _&&_, _||_, and-false, or-true, or-false}
 use mathlib.Core.List.{List, [], _∷_}
 use mathlib.Core.Path.{_≡_, refl, sym, ap, _∙_}
 use native.Mathlib.Omega.{arith}
@@ -12,7 +12,7 @@ use lib.ListN.{length, getD}
 use Rattle.windows.specs.Text.{bytes}
 use Rattle.windows.specs.Window.{isAt, sees, byteAt}
 use Rattle.windows.proofs.Facts.{both, neither, isAt-begins}
-use Rattle.rules.specs.Cond.{Cond, Mode, window, vowel, below, slavo, non, _&_, _or_, ahead, back, holds}
+use Rattle.rules.specs.Cond.{Cond, Mode, window, vowel, place, below, slavo, non, _&_, _or_, ahead, back, holds}
 use Rattle.rules.specs.Case.{Case, case, gives, first}
 use Rattle.rules.specs.Plain.{next}
 use Rattle.rules.specs.CasesC.{casesC, ach, conditionC0}
@@ -20,6 +20,16 @@ use Rattle.rules.specs.CasesDL.{casesJ, JOSE, SAN, spanish, firstJ}
 use Rattle.rules.specs.CasesG.{casesG, GN, gnOther}
 use Rattle.rules.specs.CasesS.{casesS, SIO}
 use Rattle.rules.specs.Idle.{asking, Alike, gnOtherBrief, sioBrief, achBrief, firstJBrief}
+
+-- ---- a test that is brought by another may be left out beside it
+and-left : (x d : Bool) → (x ≡ true → d ≡ true) → (x && d) ≡ x
+and-left true d h = h refl
+and-left false d h = refl
+
+or-left : (x d : Bool) → (d ≡ true → x ≡ true) → (x || d) ≡ x
+or-left true d h = refl
+or-left false true h = sym (h refl)
+or-left false false h = refl
 
 -- ---- the Y test in the GN branch of handle_g
 -- one byte is not two letters
@@ -35,7 +45,9 @@ n-is-no-y u p m e = other-byte u (p + 1) (code "N") (code "Y") refl e
 
 pub gn-other : (u : List ℕ) (p : ℕ) (m : Mode) → holds GN u p m ≡ true → holds gnOther u p m ≡ holds gnOtherBrief u p m
 unfolding holds
-gn-other u p m e = simp (n-is-no-y u p m e, and-true)
+gn-other u p m e =
+    ap (λ (b : Bool). b && not (m .mark))
+    (and-left (holds (non (window (ahead 2) 2 ("EY" ∷ []))) u p m) (holds (non (next "Y")) u p m) (λ h. ap not (n-is-no-y u p m e)))
 
 -- case 9 holds before N alone
 gn-case : (u : List ℕ) (p : ℕ) (m : Mode) → holds (GN & gnOther) u p m ≡ holds (GN & gnOtherBrief) u p m
@@ -57,15 +69,9 @@ sian-is-sia u p m e =
     let sian : isAt u (p + 0) 4 (bytes "SIAN") ≡ true = sym (or-false _) ∙ e in
     simp (isAt-begins u (p + 0) 4 3 (bytes "SIAN") (omega arith) sian, or-true)
 
--- an `or` whose second half brings the first is the first
-or-first : (a b : Bool) → (b ≡ true → a ≡ true) → (a || b) ≡ a
-or-first true b h = refl
-or-first false true h = sym (h refl)
-or-first false false h = refl
-
 pub sio : (u : List ℕ) (p : ℕ) (m : Mode) → holds SIO u p m ≡ holds sioBrief u p m
 unfolding holds
-sio u p m = or-first (holds sioBrief u p m) (holds (window (ahead 0) 4 ("SIAN" ∷ [])) u p m) (sian-is-sia u p m)
+sio u p m = or-left (holds sioBrief u p m) (holds (window (ahead 0) 4 ("SIAN" ∷ [])) u p m) (sian-is-sia u p m)
 
 -- cases 5 and 6
 sio-marked : (u : List ℕ) (p : ℕ) (m : Mode) → holds (SIO & slavo) u p m ≡ holds (sioBrief & slavo) u p m
@@ -85,19 +91,17 @@ asked-once u p m e = by (ltb p 2) _ e
     by true v h = h
     by false v h = refl
 
--- a test that an earlier one of the same `&` brings may be left out
-and-once : (u : List ℕ) (p : ℕ) (m : Mode) (a b c d e : Cond) → (holds b u p m ≡ true → holds d u p m ≡ true)
+-- the fourth test of five, brought by the second
+fourth : (u : List ℕ) (p : ℕ) (m : Mode) (a b c d e : Cond) → (holds b u p m ≡ true → holds d u p m ≡ true)
     → holds (a & b & c & d & e) u p m ≡ holds (a & b & c & e) u p m
 unfolding holds
-and-once u p m a b c d e h = by (holds a u p m) (holds b u p m) (holds c u p m) (holds d u p m) (holds e u p m) h
-  where
-    by : (a b c d e : Bool) → (b ≡ true → d ≡ true) → ((((a && b) && c) && d) && e) ≡ (((a && b) && c) && e)
-    by false b c d e h = refl
-    by true false c d e h = refl
-    by true true c d e h = rw (h refl) (ap (λ (b : Bool). b && e) (and-true c))
+fourth u p m a b c d e h =
+    let ab : Bool = holds a u p m && holds b u p m in
+    ap (λ (q : Bool). q && holds e u p m)
+    (and-left (ab && holds c u p m) (holds d u p m) (λ t. h (both (holds a u p m) (holds b u p m) (both ab (holds c u p m) t .0) .1)))
 
 pub ach-once : (u : List ℕ) (p : ℕ) (m : Mode) → holds ach u p m ≡ holds achBrief u p m
-ach-once u p m = and-once u p m _ _ _ _ _ (asked-once u p m)
+ach-once u p m = fourth u p m _ _ _ _ _ (asked-once u p m)
 
 -- case 1
 c0-once : (u : List ℕ) (p : ℕ) (m : Mode) → holds conditionC0 u p m ≡ holds (window (ahead 0) 4 ("CHIA" ∷ []) or achBrief) u p m
@@ -115,7 +119,7 @@ no-jose u p m e = simp (neither (holds JOSE u p m) (holds SAN u p m) e .0)
 
 pub first-j : (u : List ℕ) (p : ℕ) (m : Mode) → holds spanish u p m ≡ false → holds firstJ u p m ≡ holds firstJBrief u p m
 unfolding holds
-first-j u p m e = simp (no-jose u p m e, and-true)
+first-j u p m e = and-left (holds (place 0) u p m) (holds (non JOSE) u p m) (λ h. no-jose u p m e)
 
 first-doubled : (u : List ℕ) (p : ℕ) (m : Mode) → holds spanish u p m ≡ false → holds (firstJ & next "J") u p m ≡ holds (firstJBrief & next "J") u p m
 unfolding holds

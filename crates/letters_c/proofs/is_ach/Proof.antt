@@ -19,8 +19,11 @@ is-ach-spec =
     (λ c κs. tt)
     (λ c. refl) (λ c κs. tt)
     (λ c.
-    let args = c .before .before .before .before .before .before .before .before .before .args in
-    rw (ach-once (upper (args .w .now)) (args .at) plain) (cc))
+    let i = c .before .before .before in
+    let then = i .before .before in
+    let args = then .before .before .before .before .args in
+    rw (c .behind2 .ensures, c .before .before .char-ahead2 .ensures, i .char-ahead .ensures, i .before .vowel-behind .ensures, then .before .behind .ensures)
+    (sym (ach-once (upper (args .w .now)) (args .at) plain)))
     (λ c.
     let args = c .before .before .before .before .args in
     ach-no (upper (args .w .now)) (args .at) plain (sym (c .before .behind .ensures) ∙ c .if1 .left)))

@@ -21,7 +21,8 @@ pub enum Verdict {
     NotAscii(u8, usize),
 }
 
-fn same_bytes(x: &[u8], y: &[u8]) -> bool
+// Whether two codes are the same bytes.
+pub fn same_bytes(x: &[u8], y: &[u8]) -> bool
     ensures { λ r. ⌜ r ≡ same (now (x .entry)) (now (y .entry)) ⌝ }
 {
     if x.len() != y.len() {

@@ -1,0 +1,5 @@
+-- The pairs of a join.
+--     Cut     a code under a limit, the smaller of two limits
+--     Pairs   the definition: all pairs of stations whose codes agree, and their order
+pub mod Cut
+pub mod Pairs

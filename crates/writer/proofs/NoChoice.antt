@@ -5,6 +5,8 @@ use borrow.Fn.Kinds.{Dens, resT, endedOf}
 use denote.Ref.{now}
 use denote.Triple.Clauses.{AtExit}
 use Rattle.windows.proofs.Choice.{OneResult}
+use Rattle.writer.proofs.limit_of.Kinds as limit-of-kinds
+use Rattle.writer.proofs.limit_of.Reads as limit-of
 use Rattle.writer.proofs.start.Kinds as start-kinds
 use Rattle.writer.proofs.start.Reads as start
 use Rattle.writer.proofs.append.Kinds as append-kinds
@@ -14,6 +16,9 @@ use Rattle.writer.proofs.end_of.Reads as end-of
 use Rattle.writer.proofs.add.Kinds as add-kinds
 use Rattle.writer.proofs.add.Reads as add
 use contract.Lifetimes.{Lfts}
+
+pub one-limit-of : OneResult limit-of-kinds.ps limit-of-kinds.r limit-of.Post
+one-limit-of κs a x y s t p q = p ∙ sym q
 
 pub one-start : OneResult start-kinds.ps start-kinds.r start.Post
 one-start κs a x y s t p q = p .answer ∙ sym (q .answer)

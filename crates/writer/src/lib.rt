@@ -111,7 +111,8 @@ pub fn start(room: &mut [u8], limit: Limit) -> Made
     }
 }
 
-fn limit_of(cut: u32) -> Limit
+// The limit that a cut stands for.
+pub fn limit_of(cut: u32) -> Limit
     ensures { λ r. ⌜ r ≡ limitOf cut ⌝ }
 {
     if cut == 0 {

@@ -1,0 +1,4 @@
+pub mod Hash
+pub mod Chain
+pub mod Walks
+pub mod Runs

@@ -3,3 +3,5 @@
 --     Laid       records laid out in scratch words, one after the other
 --     NoChoice   no public function's promise leaves a choice
 pub mod Books
+pub mod Laid
+pub mod NoChoice

@@ -2,6 +2,8 @@
 --     Copies     pairs as numbers in the room, and a run copied beside a station
 --     Pairing    the loops over the first book, and what the count says of the room
 --     Laying     both books laid out in one scratch
+--     Books      from two books that meet to what is promised of them
 pub mod Copies
 pub mod Pairing
 pub mod Laying
+pub mod Books

@@ -18,6 +18,8 @@ use Rattle.answers.proofs.tell_whole.Kinds as whole-kinds
 use Rattle.answers.proofs.tell_whole.Reads as whole
 use Rattle.answers.proofs.tell_ended.Kinds as ended-kinds
 use Rattle.answers.proofs.tell_ended.Reads as ended
+use Rattle.answers.proofs.tell_joined.Kinds as joined-kinds
+use Rattle.answers.proofs.tell_joined.Reads as joined
 use contract.Lifetimes.{Lfts}
 
 module _ (κs : Lfts 1) (a : Dens κs answer-kinds.ps) (x y : resT answer-kinds.r κs .Denot) (s t : AtExit (endedOf 1 answer-kinds.ps answer-kinds.r) κs) where
@@ -47,3 +49,7 @@ module _ (κs : Lfts 1) (a : Dens κs whole-kinds.ps) (x y : resT whole-kinds.r 
 module _ (κs : Lfts 1) (a : Dens κs ended-kinds.ps) (x y : resT ended-kinds.r κs .Denot) (s t : AtExit (endedOf 1 ended-kinds.ps ended-kinds.r) κs) where
   pub one-ended : ended.Post κs a x s → ended.Post κs a y t → now (s .1 .0) ≡ now (t .1 .0)
   one-ended p q = p ∙ sym q
+
+module _ (κs : Lfts 1) (a : Dens κs joined-kinds.ps) (x y : resT joined-kinds.r κs .Denot) (s t : AtExit (endedOf 1 joined-kinds.ps joined-kinds.r) κs) where
+  pub one-joined : joined.Post κs a x s → joined.Post κs a y t → now (s .1 .0) ≡ now (t .1 .0)
+  one-joined p q = p ∙ sym q

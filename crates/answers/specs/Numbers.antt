@@ -15,6 +15,8 @@ use Rattle.writer.specs.declared.Ended.{Ended}
 use Rattle.writer.specs.declared.Ended.the-variants as ended
 use Rattle.writer.specs.declared.Made.{Made}
 use Rattle.writer.specs.declared.Made.the-variants as made
+use Rattle.join.specs.declared.Joined.{Joined}
+use Rattle.join.specs.declared.Joined.the-variants as joined
 
 -- number, place, primary length, alternate length, visits
 abbrev pub answerNumbers : Answer → List ℕ
@@ -50,3 +52,8 @@ wholeNumbers (whole.Fault f) = f ∷ 0 ∷ 0 ∷ 0 ∷ 0 ∷ 0 ∷ []
 abbrev pub endedNumbers : Ended → List ℕ
 endedNumbers (ended.At e) = 0 ∷ e .len ∷ e .floor ∷ []
 endedNumbers (ended.Fault f) = f ∷ 0 ∷ 0 ∷ []
+
+-- number and count of pairs
+abbrev pub joinedNumbers : Joined → List ℕ
+joinedNumbers (joined.Pairs n) = 0 ∷ n ∷ []
+joinedNumbers (joined.Fault f) = f ∷ 0 ∷ []

@@ -4,10 +4,11 @@ use book::Step;
 use book::Whole;
 use encoder::Answer;
 use equality::Verdict;
+use join::Joined;
 use writer::Ended;
 use writer::Made;
 ghost use mathlib.Core.Path.{_≡_};
-ghost use Rattle.answers.specs.Numbers.{answerNumbers, verdictNumbers, madeNumbers, openedNumbers, stepNumbers, wholeNumbers, endedNumbers};
+ghost use Rattle.answers.specs.Numbers.{answerNumbers, verdictNumbers, madeNumbers, openedNumbers, stepNumbers, wholeNumbers, endedNumbers, joinedNumbers};
 
 // Number, place, both lengths and visits.
 pub fn tell_answer(answer: Answer, out: &mut [u64; 5])
@@ -161,6 +162,20 @@ pub fn tell_ended(ended: Ended, out: &mut [u64; 3])
         }
         Ended::Fault(f) => {
             *out = [f as u64, 0, 0];
+        }
+    }
+}
+
+// Number and count of pairs.
+pub fn tell_joined(joined: Joined, out: &mut [u64; 2])
+    ensures { λ _. ⌜ now (out .exit) ≡ joinedNumbers joined ⌝ }
+{
+    match joined {
+        Joined::Pairs(n) => {
+            *out = [0, n as u64];
+        }
+        Joined::Fault(f) => {
+            *out = [f as u64, 0];
         }
     }
 }

@@ -1,6 +1,7 @@
 // The C face: the encoder, the equality question and the station key book (books.rt) for hosts, on numbers and byte slices only. A
 // slice is a pointer and a length; answers go to arrays that the caller lends, so that nothing is returned by value.
 mod books;
+mod joins;
 
 use encoder::Choice;
 use encoder::Encoder;

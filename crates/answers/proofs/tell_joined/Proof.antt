@@ -1,0 +1,14 @@
+-- `answers::tell_joined` meets its contract: each arm writes the numbers of its case. Assumes nothing.
+use borrow.Author.Needs.{needs}
+use Rattle.answers.proofs.tell_joined.Statement.{statement}
+use Rattle.answers.proofs.tell_joined.Tie as tie
+
+pub tell-joined-spec : {M : Type 1} → statement M
+tell-joined-spec =
+    tie.close
+    (tie.spec
+    (λ c. search needs)
+    (λ c. search needs)
+    (λ c. search needs)
+    (λ c. rw (c .before .before .joined .given .1))
+    (λ c. rw (c .before .before .joined2 .given .1)))

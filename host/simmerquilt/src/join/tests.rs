@@ -1,5 +1,5 @@
-//! What the wrapper cannot lend: a room of an odd count of numbers.
-use super::scratch_words;
+//! What cannot be met from outside: a room of an odd count of numbers, and a room that no memory holds.
+use super::{grow, scratch_words, JoinRefusal, Pair};
 use crate::{face, Book};
 
 const HELD: u32 = 0xeeee_eeee;
@@ -23,4 +23,15 @@ fn an_odd_last_number_is_not_used() {
     for behind in 0..4 {
         assert_eq!(joined(8 + behind), ([0, 4], [&pairs[..], &vec![HELD; behind]].concat()));
     }
+}
+
+#[test]
+fn a_room_that_no_memory_holds_is_told() {
+    let mut room = vec![Pair::default(); 3];
+    for length in [usize::MAX, usize::MAX / 2, usize::MAX / 8] {
+        assert_eq!(grow(&mut room, length), Err(JoinRefusal::RoomShort));
+        assert_eq!(room.len(), 3);
+    }
+    assert_eq!(grow(&mut room, 2), Ok(()));
+    assert_eq!(room.len(), 3);
 }

@@ -78,15 +78,15 @@ pub fn sized(rng: &mut Rng, count: usize, length: usize) -> Vec<String> {
     (0..count).map(|_| one(rng)).collect()
 }
 
-/// The same gauge as another office spells it: some vowels behind the first letter are others, which mostly leaves its code as it is.
+/// The same gauge as another office spells it: the small vowels are drawn anew, which mostly leaves its code as it is.
 pub fn respelt(rng: &mut Rng, name: &str) -> String {
-    let mut other = |letter: char| match letter {
+    let other = |letter: char| match letter {
         // Those before which C and G are hard, and those before which they are soft.
-        'a' | 'o' | 'u' if rng.once_in(3) => ['a', 'o', 'u'][rng.below(3)],
-        'e' | 'i' if rng.once_in(3) => ['e', 'i'][rng.below(2)],
+        'a' | 'o' | 'u' => ['a', 'o', 'u'][rng.below(3)],
+        'e' | 'i' => ['e', 'i'][rng.below(2)],
         _ => letter,
     };
-    name.chars().enumerate().map(|(place, letter)| if place == 0 { letter } else { other(letter) }).collect()
+    name.chars().map(other).collect()
 }
 
 #[cfg(test)]

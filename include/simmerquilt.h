@@ -220,6 +220,59 @@ void simmerquilt_book_append(uint8_t *room, size_t room_length,
                              const uint8_t *name, size_t name_length,
                              uint64_t answer[SIMMERQUILT_APPEND_COUNT]);
 
+/* The join of two books, whose cuts may differ: all pairs of a station of the first and a station of the second book that meet.
+ *
+ * Two stations meet where their primary codes, or the alternate ones where `alternate` is true, agree on their first m bytes: m is
+ * the smaller limit of both books, and no limit puts no bound. A code shorter than m counts whole, so that it meets none that is
+ * longer. The codes are taken as they are stored. Each pair comes once, by rising station of the first book, then of the second.
+ *
+ * The scratch is words that the join works in; what they hold at first does not matter. The two books may be the same bytes; the
+ * scratch, the pairs and the answer must lie apart from each other and from the books.
+ *
+ * No.           given exactly when                                         the scratch then
+ * 1, 2, 5 to 8  the first book has this fault, or else the second one      keeps what it held
+ * 10            the editions of the books differ                           keeps what it held
+ * 9             the scratch has fewer words than are needed                keeps what it held
+ * 9             the pairs' room is too short for all pairs                 as under 0
+ * 0             none of these                                              is 0 in the words that are needed
+ *
+ * The first that holds is given. Words of the scratch behind those that are needed keep what they held, and under a refusal so does
+ * the pairs' room; the count is then 0. Only one edition is known as yet, so that 10 is not met.
+ *
+ * A book crafted so that many of its codes share a slot may slow a join; it can never change the result.
+ */
+enum {
+    SIMMERQUILT_EDITIONS_DIFFER = 10
+};
+
+/* Where each number stands in the answer of simmerquilt_join_count and of simmerquilt_join. */
+enum {
+    SIMMERQUILT_JOIN_NUMBER,
+    SIMMERQUILT_JOIN_PAIRS,
+    SIMMERQUILT_JOIN_COUNT
+};
+
+/* How many words of scratch the join of books with so many records needs: 3 * first + 8 * second + 1, or SIZE_MAX where that does
+ * not fit. */
+size_t simmerquilt_join_scratch(size_t first_records, size_t second_records);
+
+/* How many pairs there are, or `most` where there are more. The answer is the number and that count. */
+void simmerquilt_join_count(const uint8_t *first, size_t first_length,
+                            const uint8_t *second, size_t second_length,
+                            bool alternate,
+                            size_t *scratch, size_t scratch_length,
+                            uint64_t most,
+                            uint64_t answer[SIMMERQUILT_JOIN_COUNT]);
+
+/* Writes the pairs, each as two stations, to the front of `pairs`, which has room for `pairs_length` numbers; an odd last one is not
+ * used. The answer is the number and how many pairs there are. Numbers behind the pairs keep what they held. */
+void simmerquilt_join(const uint8_t *first, size_t first_length,
+                      const uint8_t *second, size_t second_length,
+                      bool alternate,
+                      size_t *scratch, size_t scratch_length,
+                      uint32_t *pairs, size_t pairs_length,
+                      uint64_t answer[SIMMERQUILT_JOIN_COUNT]);
+
 #ifdef __cplusplus
 }
 #endif

@@ -1,5 +1,5 @@
 /* Calls the library as a C program does: words with known keys, every refusal, guard bytes around the buffers, and a station key
- * book that is started, added to and read. It writes nothing where all is as it should be. */
+ * book that is started, added to, read and joined with another. It writes nothing where all is as it should be. */
 #include "simmerquilt.h"
 
 #include <stdio.h>
@@ -271,6 +271,91 @@ static void no_book_lent(void) {
     expect(gives(answer, room_short, SIMMERQUILT_APPEND_COUNT), "no room", "append");
 }
 
+/* A book of two records under limit 6, to be joined with the one above: 7 meets 9. */
+#define OTHER "\x01\x01\x07" "\x05\x05Weser\x03" "ASR\x03" "FSR" "\x09\x07Jumpton\x05JMPTN\x05" "AMPTN"
+enum { OTHER_END = 39, SCRATCH = 3 * 2 + 8 * 2 + 1, PAIRS = 2 };
+
+/* What is lent to a join, with words and numbers behind what it needs. */
+struct joined {
+    size_t scratch[SCRATCH + 2];
+    uint32_t pairs[PAIRS + 3];
+};
+
+static void hold(struct joined *lent) { memset(lent, HELD, sizeof *lent); }
+
+/* Whether the scratch that is needed is cleared or not, these pairs are written, and all else is held. */
+static bool left(const struct joined *lent, bool cleared, const uint32_t *pairs, size_t count) {
+    struct joined expected;
+    hold(&expected);
+    if (cleared) memset(expected.scratch, 0, SCRATCH * sizeof *expected.scratch);
+    if (count > 0) memcpy(expected.pairs, pairs, 2 * count * sizeof *pairs);
+    return memcmp(expected.scratch, lent->scratch, sizeof expected.scratch) == 0 &&
+           memcmp(expected.pairs, lent->pairs, sizeof expected.pairs) == 0;
+}
+
+/* Joins the two books, of which so many bytes are lent. */
+static void join(size_t first_length, size_t second_length, bool alternate, size_t scratch, size_t room, uint64_t number,
+                 bool cleared, const char *what) {
+    static const uint32_t pairs[PAIRS] = {7, 9};
+    uint64_t count = number == SIMMERQUILT_ACCEPTED;
+    uint64_t expected[SIMMERQUILT_JOIN_COUNT] = {number, count};
+    uint64_t answer[SIMMERQUILT_JOIN_COUNT];
+    struct joined lent;
+    hold(&lent);
+    simmerquilt_join(bytes(HEADER FIRST SECOND), first_length, bytes(OTHER), second_length, alternate, lent.scratch, scratch,
+                     lent.pairs, room, answer);
+    expect(gives(answer, expected, SIMMERQUILT_JOIN_COUNT), "join", what);
+    expect(left(&lent, cleared, pairs, count), "scratch and pairs", what);
+}
+
+static void count(const char *second, size_t second_length, size_t scratch, uint64_t most, uint64_t number, uint64_t pairs,
+                  const char *what) {
+    uint64_t expected[SIMMERQUILT_JOIN_COUNT] = {number, pairs};
+    uint64_t answer[SIMMERQUILT_JOIN_COUNT];
+    struct joined lent;
+    hold(&lent);
+    simmerquilt_join_count(bytes(HEADER FIRST SECOND), SECOND_END, bytes(second), second_length, false, lent.scratch, scratch,
+                           most, answer);
+    expect(gives(answer, expected, SIMMERQUILT_JOIN_COUNT), "count", what);
+    expect(left(&lent, number == SIMMERQUILT_ACCEPTED, NULL, 0), "scratch", what);
+}
+
+static void books_joined(void) {
+    expect(simmerquilt_join_scratch(2, 2) == SCRATCH, "scratch", "two records each");
+    expect(simmerquilt_join_scratch(0, 0) == 1, "scratch", "no records");
+    expect(simmerquilt_join_scratch(SIZE_MAX / 3, 0) == SIZE_MAX, "scratch", "does not fit");
+    expect(simmerquilt_join_scratch(0, SIZE_MAX) == SIZE_MAX, "scratch", "does not fit");
+
+    join(SECOND_END, OTHER_END, false, SCRATCH, PAIRS, SIMMERQUILT_ACCEPTED, true, "primary");
+    join(SECOND_END, OTHER_END, true, SCRATCH + 2, PAIRS + 3, SIMMERQUILT_ACCEPTED, true, "alternate, more lent");
+    join(SECOND_END, OTHER_END, false, SCRATCH, PAIRS + 1, SIMMERQUILT_ACCEPTED, true, "odd room");
+    join(SECOND_END, OTHER_END, false, SCRATCH, PAIRS - 1, SIMMERQUILT_ROOM_SHORT, true, "room too short");
+    join(SECOND_END, OTHER_END, false, SCRATCH, 0, SIMMERQUILT_ROOM_SHORT, true, "no room");
+    join(SECOND_END, OTHER_END, false, SCRATCH - 1, PAIRS, SIMMERQUILT_ROOM_SHORT, false, "scratch too short");
+    join(SECOND_END, OTHER_END - 1, false, SCRATCH, PAIRS, SIMMERQUILT_CUT_SHORT, false, "second book cut short");
+    join(SECOND_END - 1, OTHER_END, false, 0, 0, SIMMERQUILT_CUT_SHORT, false, "first book cut short");
+
+    count(OTHER, OTHER_END, SCRATCH, UINT64_MAX, SIMMERQUILT_ACCEPTED, 1, "two books");
+    count(OTHER, OTHER_END, SCRATCH, 0, SIMMERQUILT_ACCEPTED, 0, "at most none");
+    count(OTHER, OTHER_END, SCRATCH - 1, UINT64_MAX, SIMMERQUILT_ROOM_SHORT, 0, "scratch too short");
+    count("\x01\x02", 2, SCRATCH, UINT64_MAX, SIMMERQUILT_UNKNOWN, 0, "no such edition");
+    count(HEADER FIRST SECOND, SECOND_END, SCRATCH, UINT64_MAX, SIMMERQUILT_ACCEPTED, 2, "a book with itself");
+}
+
+static void no_join_lent(void) {
+    static const uint64_t cut_short[SIMMERQUILT_JOIN_COUNT] = {SIMMERQUILT_CUT_SHORT};
+    static const uint64_t room_short[SIMMERQUILT_JOIN_COUNT] = {SIMMERQUILT_ROOM_SHORT};
+    static const uint64_t none[SIMMERQUILT_JOIN_COUNT] = {0};
+    uint64_t answer[SIMMERQUILT_JOIN_COUNT];
+    size_t word = HELD;
+    simmerquilt_join(NULL, 0, NULL, 0, false, NULL, 0, NULL, 0, answer);
+    expect(gives(answer, cut_short, SIMMERQUILT_JOIN_COUNT), "no books", "join");
+    simmerquilt_join_count(bytes(HEADER), HEADER_END, bytes(HEADER), HEADER_END, false, NULL, 0, 0, answer);
+    expect(gives(answer, room_short, SIMMERQUILT_JOIN_COUNT), "no scratch", "count");
+    simmerquilt_join(bytes(HEADER), HEADER_END, bytes(HEADER), HEADER_END, false, &word, 1, NULL, 0, answer);
+    expect(gives(answer, none, SIMMERQUILT_JOIN_COUNT) && word == 0, "no room", "join without pairs");
+}
+
 int main(void) {
     known_words();
     refusals();
@@ -280,5 +365,7 @@ int main(void) {
     books_added_to();
     books_read();
     no_book_lent();
+    books_joined();
+    no_join_lent();
     return failures != 0;
 }

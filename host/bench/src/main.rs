@@ -1,12 +1,17 @@
-//! Times the proved port beside the unchanged Rust, in turns over the same words, and the station key book beside a plain reader and
-//! writer; prints the tables and writes docs/BENCHMARKS.md.
+//! Times the proved port beside the unchanged Rust, in turns over the same words, the station key book beside a plain reader and
+//! writer, and the join beside SQLite; prints the tables and writes docs/BENCHMARKS.md. With the word `join` it times the join alone and
+//! writes nothing.
 mod book;
 mod book_report;
+mod join;
+mod join_report;
 mod measure;
 mod report;
+mod sqlite;
 
 use measure::{measure, spent, Row};
 use oracle::{Oracle, NOT_AT_HAND};
+use std::env;
 use std::fs;
 use std::io;
 use std::path::Path;
@@ -27,7 +32,15 @@ fn lists() -> Vec<(String, Vec<String>)> {
     lists
 }
 
+fn joins() -> String {
+    join_report::section(join::measure().as_ref())
+}
+
 fn main() -> io::Result<()> {
+    if env::args().skip(1).eq(["join"]) {
+        println!("{}", joins());
+        return Ok(());
+    }
     let Some(oracle) = Oracle::at_hand() else {
         println!("bench: NOT RUN, there is nothing to time the port beside: {NOT_AT_HAND}");
         return Ok(());
@@ -44,6 +57,8 @@ fn main() -> io::Result<()> {
     println!("{}\n{}\n\n{}\n", report::table(&rows), report::targets(&rows), report::spent(&spent));
     let books = book_report::section(&book::measure(&oracle));
     println!("{books}");
+    let joins = joins();
+    println!("{joins}");
     let page = Path::new(env!("CARGO_MANIFEST_DIR")).join("../../docs/BENCHMARKS.md");
-    fs::write(page, report::page(&rows, gauges, &spent, &books))
+    fs::write(page, report::page(&rows, gauges, &spent, &books, &joins))
 }

@@ -78,7 +78,7 @@ take {:.0} ns on a word of 1,024 bytes, most of what such a word costs under lim
     )
 }
 
-pub fn page(rows: &[Row], gauges: &[String], time: &Spent, books: &str) -> String {
+pub fn page(rows: &[Row], gauges: &[String], time: &Spent, books: &str, joins: &str) -> String {
     let cores = thread::available_parallelism().map_or(1, usize::from);
     let bytes: usize = gauges.iter().map(String::len).sum();
     format!(
@@ -98,6 +98,7 @@ The gauge names are {} lines of {:.1} bytes on average. Words of a given length 
 {}
 
 {books}
+{joins}
 Measured on {cores} cores, {ARCH}, {OS}, by this command in host/, which writes this page:
 
     cargo run --offline --release -p bench

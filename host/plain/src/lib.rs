@@ -1,10 +1,13 @@
 //! Station key books in plain Rust, written from the words of document 02, L1, and not from the proved code or its definition: the
-//! outside witness of the proved reader and writer. It knows no encoder; who writes a book passes the codes in.
+//! outside witness of the proved reader and writer. It knows no encoder; who writes a book passes the codes in. The join of two books is
+//! here too, by comparing each record with each.
 //!
 //! L1 does not say which of two faults comes first that one byte shows. Here, as in the library, a number's form comes before its value.
+mod join;
 mod read;
 mod write;
 
+pub use join::join;
 pub use read::{read, Header, Reader, Record};
 pub use write::{add, push_number, Writer};
 
@@ -25,6 +28,8 @@ pub const UNKNOWN: Fault = 7;
 pub const NOT_RISING: Fault = 8;
 /// A room too short for the result.
 pub const ROOM_SHORT: Fault = 9;
+/// Two books of different editions.
+pub const EDITIONS_DIFFER: Fault = 10;
 
 /// The longest name.
 pub const NAME_LIMIT: usize = 1024;

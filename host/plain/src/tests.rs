@@ -106,3 +106,38 @@ fn adding_reads_first_and_asks_for_room_last() {
     assert_eq!(add(&room[..3], 4, NUMBER_END, b"a", codes), Err(6));
     assert_eq!(add(&[1, 2], 4, NUMBER_END, b"a", codes), Err(7));
 }
+
+/// A book of these stations and codes, both codes alike but for a dot before the alternate one.
+fn coded(limit: Option<u64>, records: &[(u64, &str)]) -> Vec<u8> {
+    let mut writer = Writer::new(limit).unwrap();
+    for (station, code) in records {
+        writer.push(*station, b"a", |_, _| (code.to_string(), format!(".{code}"))).unwrap();
+    }
+    writer.into_bytes()
+}
+
+#[test]
+fn a_join_compares_up_to_the_smaller_limit() {
+    let four = coded(Some(4), &[(1, "ABCD"), (2, "ABC"), (3, ""), (9, "ABCD")]);
+    let six = coded(Some(6), &[(4, "ABCDEF"), (5, "ABC"), (6, "AB"), (7, "ABCD"), (8, "")]);
+    let met = vec![(1, 4), (1, 7), (2, 5), (3, 8), (9, 4), (9, 7)];
+    assert_eq!(join(&four, &six, false), Ok(met.clone()));
+    let mut turned: Vec<_> = met.into_iter().map(|(first, second)| (second, first)).collect();
+    turned.sort();
+    assert_eq!(join(&six, &four, false), Ok(turned));
+    // With the dot, three letters are left under the limit 4.
+    assert_eq!(join(&four, &six, true).unwrap().len(), 10);
+    assert_eq!(join(&coded(None, &[(1, "ABCDEF")]), &six, false), Ok(vec![(1, 4)]));
+    assert_eq!(join(&coded(None, &[(1, "ABCD")]), &coded(None, &[(1, "ABCDE"), (2, "ABCD")]), false), Ok(vec![(1, 2)]));
+    // Under the limit 0 all meet.
+    assert_eq!(join(&coded(Some(0), &[(1, "AB"), (2, "")]), &six, false).unwrap().len(), 10);
+    assert_eq!(join(&[1, 1, 5], &six, false), Ok(vec![]));
+}
+
+#[test]
+fn a_join_reads_the_first_book_first() {
+    let good = [1, 1, 0];
+    assert_eq!(join(&[2], &[1], false), Err(7));
+    assert_eq!(join(&good, &[1], false), Err(6));
+    assert_eq!(join(&[1], &good, false), Err(6));
+}

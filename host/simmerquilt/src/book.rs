@@ -146,6 +146,12 @@ impl PartialEq for Book {
 
 impl Eq for Book {}
 
+impl AsRef<[u8]> for Book {
+    fn as_ref(&self) -> &[u8] {
+        self.as_bytes()
+    }
+}
+
 impl Debug for Book {
     fn fmt(&self, f: &mut Formatter<'_>) -> fmt::Result {
         f.debug_struct("Book").field("header", &self.header).field("records", &self.records).finish_non_exhaustive()

@@ -1,5 +1,7 @@
 //! The calls into the proved library. All unsafe code of this crate is here.
 #![allow(unsafe_code)]
+use crate::join::Pair;
+use std::slice;
 
 extern "C" {
     fn simmerquilt_encode(
@@ -55,6 +57,33 @@ extern "C" {
         name: *const u8,
         name_length: usize,
         out: *mut [u64; 3],
+    );
+
+    fn simmerquilt_join_scratch(first_records: usize, second_records: usize) -> usize;
+
+    fn simmerquilt_join_count(
+        first: *const u8,
+        first_length: usize,
+        second: *const u8,
+        second_length: usize,
+        alternate: bool,
+        scratch: *mut usize,
+        scratch_length: usize,
+        most: u64,
+        out: *mut [u64; 2],
+    );
+
+    fn simmerquilt_join(
+        first: *const u8,
+        first_length: usize,
+        second: *const u8,
+        second_length: usize,
+        alternate: bool,
+        scratch: *mut usize,
+        scratch_length: usize,
+        pairs: *mut u32,
+        pairs_length: usize,
+        out: *mut [u64; 2],
     );
 }
 
@@ -179,4 +208,62 @@ pub fn book_append(
         );
     }
     out
+}
+
+/// How many words of scratch, or `usize::MAX`.
+#[inline]
+pub fn join_scratch(first: usize, second: usize) -> usize {
+    // SAFETY: as above. Numbers alone are passed.
+    unsafe { simmerquilt_join_scratch(first, second) }
+}
+
+/// Number, pairs.
+#[inline]
+pub fn join_count(first: &[u8], second: &[u8], alternate: bool, scratch: &mut [usize], most: u64) -> [u64; 2] {
+    let mut out = [0; 2];
+    // SAFETY: as above. Both books are only read, so they may be one and the same; the scratch may hold anything.
+    unsafe {
+        simmerquilt_join_count(
+            first.as_ptr(),
+            first.len(),
+            second.as_ptr(),
+            second.len(),
+            alternate,
+            scratch.as_mut_ptr(),
+            scratch.len(),
+            most,
+            &mut out,
+        );
+    }
+    out
+}
+
+/// Number, pairs.
+#[inline]
+pub fn join(first: &[u8], second: &[u8], alternate: bool, scratch: &mut [usize], pairs: &mut [u32]) -> [u64; 2] {
+    let mut out = [0; 2];
+    // SAFETY: as above. The borrows say that scratch, pairs and `out` lie apart from each other and from both books.
+    unsafe {
+        simmerquilt_join(
+            first.as_ptr(),
+            first.len(),
+            second.as_ptr(),
+            second.len(),
+            alternate,
+            scratch.as_mut_ptr(),
+            scratch.len(),
+            pairs.as_mut_ptr(),
+            pairs.len(),
+            &mut out,
+        );
+    }
+    out
+}
+
+/// The numbers that pairs are made of.
+#[inline]
+pub fn numbers(pairs: &mut [Pair]) -> &mut [u32] {
+    // SAFETY: a Pair is laid out as C lays out two numbers, so that a slice of pairs is a slice of twice as many numbers, borrowed as
+    // it was; any two numbers are a pair.
+    unsafe { slice::from_raw_parts_mut(pairs.as_mut_ptr().cast(), 2 * pairs.len()) }
 }

@@ -14,16 +14,19 @@
 //! ```
 //!
 //! [`encode_into`] and [`ask_equal`] are the library's own two questions, on lent buffers and without allocation. A [`Book`] keeps
-//! names with their codes; [`book`] has the library's calls for those who keep a book's bytes themselves.
+//! names with their codes; [`book`] has the library's calls for those who keep a book's bytes themselves. [`Book::join`] finds the stations
+//! of two books that meet, also where their cuts differ; [`join`] has it for those who lend their own room.
 #![deny(unsafe_code)]
 #![warn(missing_docs)]
 
 pub mod book;
 mod face;
+pub mod join;
 mod lent;
 mod refusal;
 
 pub use book::{Book, BookRefusal, Record, Records};
+pub use join::{Choice, JoinRefusal, Joiner, Pair};
 pub use lent::{ask_equal, encode_into, Answer, Verdict, CODE_ROOM, WORD_LIMIT};
 pub use refusal::{Refusal, Which, WordRefusal};
 

@@ -78,6 +78,17 @@ pub fn sized(rng: &mut Rng, count: usize, length: usize) -> Vec<String> {
     (0..count).map(|_| one(rng)).collect()
 }
 
+/// The same gauge as another office spells it: the small vowels are drawn anew, which mostly leaves its code as it is.
+pub fn respelt(rng: &mut Rng, name: &str) -> String {
+    let other = |letter: char| match letter {
+        // Those before which C and G are hard, and those before which they are soft.
+        'a' | 'o' | 'u' => ['a', 'o', 'u'][rng.below(3)],
+        'e' | 'i' => ['e', 'i'][rng.below(2)],
+        _ => letter,
+    };
+    name.chars().map(other).collect()
+}
+
 #[cfg(test)]
 mod tests {
     use super::*;
@@ -96,6 +107,16 @@ mod tests {
             let list = sized(&mut Rng::new(1, 0), 200, length);
             assert!(list.iter().all(|word| word.trim().len() == length));
         }
+    }
+
+    #[test]
+    fn other_spellings_change_vowels_only() {
+        let rng = &mut Rng::new(1, 0);
+        let list = gauges(rng, 1000);
+        let others: Vec<String> = list.iter().map(|name| respelt(rng, name)).collect();
+        let rest = |name: &String| name.replace(['a', 'o', 'u', 'e', 'i'], "");
+        assert!(list.iter().zip(&others).all(|(name, other)| rest(name) == rest(other)));
+        assert!(list.iter().zip(&others).filter(|(name, other)| name != other).count() > 500);
     }
 
     #[test]

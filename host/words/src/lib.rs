@@ -5,6 +5,6 @@ mod names;
 mod rng;
 
 pub use fragments::FRAGMENTS;
-pub use gauges::{gauges, sized};
+pub use gauges::{gauges, respelt, sized};
 pub use names::{ACCENTED, NAMES};
 pub use rng::Rng;

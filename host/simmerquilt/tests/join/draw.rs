@@ -1,0 +1,85 @@
+//! Books whose keys meet often, the same from the same seed.
+use plain::Writer;
+use simmerquilt::{Book, DoubleMetaphone};
+use words::{gauges, Rng, FRAGMENTS};
+
+pub const LIMITS: [Option<u64>; 6] = [Some(0), Some(1), Some(3), Some(4), Some(6), None];
+
+/// Every limit of the first book with every one of the second.
+pub fn limits() -> impl Iterator<Item = (Option<u64>, Option<u64>)> {
+    LIMITS.into_iter().flat_map(|first| LIMITS.map(|second| (first, second)))
+}
+
+/// None, one, a few, and now and then some hundred.
+pub fn size(rng: &mut Rng) -> usize {
+    match rng.below(12) {
+        0 => 0,
+        1 => 1,
+        2 => 100 + rng.below(200),
+        3..=5 => rng.below(60),
+        _ => 2 + rng.below(8),
+    }
+}
+
+/// Rising stations with gaps, close to each other or far apart.
+fn stations(rng: &mut Rng, count: usize) -> Vec<u64> {
+    let gap = [1, 3, 300, 200_000][rng.below(4)];
+    let mut station = rng.below(gap) as u64;
+    let mut next = || {
+        let this = station;
+        station += 1 + rng.below(gap) as u64;
+        this
+    };
+    (0..count).map(|_| next()).collect()
+}
+
+/// A pool of names that both books are drawn from: gauges, and what the letter rules ask for.
+pub fn pool(rng: &mut Rng, count: usize) -> Vec<String> {
+    let mut pool = gauges(rng, 1000);
+    pool.truncate(count / 2);
+    while pool.len() < count {
+        let fragments = rng.below(6);
+        pool.push((0..fragments).map(|_| rng.pick(FRAGMENTS)).collect());
+    }
+    pool
+}
+
+/// So many records with names of the pool.
+pub fn named(rng: &mut Rng, pool: &[String], count: usize) -> Vec<(u64, String)> {
+    stations(rng, count).into_iter().map(|station| (station, pool[rng.below(pool.len())].clone())).collect()
+}
+
+/// The book of such records under a limit, by the library.
+pub fn book(limit: Option<u64>, records: &[(u64, String)]) -> Book {
+    let mut book = Book::new(limit).unwrap();
+    for (station, name) in records {
+        book.add(*station, name).unwrap();
+    }
+    book
+}
+
+/// A code as no encoder makes it, and longer than a limit allows: of few letters, so that many are alike or begin alike, of any bytes,
+/// or long.
+fn any_code(rng: &mut Rng) -> Vec<u8> {
+    match rng.below(20) {
+        0 => (0..rng.below(9)).map(|_| rng.byte()).collect(),
+        1 => vec![b"A\0\xff"[rng.below(3)]; rng.below(400)],
+        2..=4 => (0..rng.below(7)).map(|_| [0, 255][rng.below(2)]).collect(),
+        _ => (0..rng.below(8)).map(|_| b"AB"[rng.below(2)]).collect(),
+    }
+}
+
+/// A book of so many records whose codes are wrong for their names.
+pub fn coded(rng: &mut Rng, limit: Option<u64>, count: usize) -> Vec<u8> {
+    let mut writer = Writer::new(limit).unwrap();
+    for station in stations(rng, count) {
+        writer.push(station, b"Weser", |_, _| (any_code(rng), any_code(rng))).unwrap();
+    }
+    writer.into_bytes()
+}
+
+/// Both codes of a name that is encoded afresh.
+pub fn keys(name: &str, limit: Option<u64>) -> [String; 2] {
+    let result = DoubleMetaphone::new(limit.map(|limit| limit as usize)).double_metaphone(name).unwrap();
+    [result.primary().to_string(), result.alternate().to_string()]
+}

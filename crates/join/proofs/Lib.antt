@@ -3,7 +3,9 @@
 --     Pairing    the loops over the first book, and what the count says of the room
 --     Laying     both books laid out in one scratch
 --     Books      from two books that meet to what is promised of them
+--     Afresh     `afresh`: where the stored codes are right, the pairs are those of encoding all names afresh
 pub mod Copies
 pub mod Pairing
 pub mod Laying
 pub mod Books
+pub mod Afresh

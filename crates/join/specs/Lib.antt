@@ -1,3 +1,5 @@
 -- The join of two books.
---     Join   what the functions promise: the answer, the room and the scratch, for every input
+--     Join     what the functions promise: the answer, the room and the scratch, for every input
+--     Afresh   books whose codes are right for their names, and their records encoded afresh
 pub mod Join
+pub mod Afresh

@@ -4,8 +4,10 @@
 --     Laying     both books laid out in one scratch
 --     Books      from two books that meet to what is promised of them
 --     Afresh     `afresh`: where the stored codes are right, the pairs are those of encoding all names afresh
+--     Order      `in-order`, `once`: the pairs of two books that read rise, and none appears twice
 pub mod Copies
 pub mod Pairing
 pub mod Laying
 pub mod Books
 pub mod Afresh
+pub mod Order

@@ -1,0 +1,37 @@
+-- The order of the pairs, and what it is to be among them: what proofs/Order.antt and proofs/Listing.antt show of a join.
+use Prim.Native.Nat.{ℕ, _<_}
+use mathlib.Core.Path.{_≡_}
+use mathlib.Core.Logic.{_⊎_}
+use mathlib.Core.List.{List, List·Memᴰ}
+use lib.ListN.{length, getD}
+use Rattle.encoder.specs.declared.Choice.{Choice}
+use Rattle.book.specs.Book.{Record, Book}
+use Rattle.pairs.specs.Cut.{clip}
+use Rattle.sides.specs.Sides.{chosenCode}
+use Rattle.join.specs.Afresh.{limitsOf}
+
+-- by the first number, then by the second
+abbrev pub Before : ℕ × ℕ → ℕ × ℕ → Type 0
+Before p q = (p .0 < q .0) ⊎ ((p .0 ≡ q .0) × (p .1 < q .1))
+
+-- each pair is before every later one
+abbrev pub InOrder : List (ℕ × ℕ) → Type 0
+InOrder ps = (i j : ℕ) → i < j → j < length ps → Before (getD ps i (0, 0)) (getD ps j (0, 0))
+
+-- no pair stands at two places
+abbrev pub Once : List (ℕ × ℕ) → Type 0
+Once ps = (i j : ℕ) → i < j → j < length ps → getD ps i (0, 0) ≡ getD ps j (0, 0) → ⊥
+
+-- is among
+abbrev pub In : {A : Type 0} → A → List A → Type 0
+In a l = List·Memᴰ a l
+
+-- some record of the first book with the station s, and some record of the second with t, whose chosen codes agree under m
+pub record Agree (c : Choice) (x y : Book) (s t : ℕ) : Type 0 where
+  pub first : Record
+  pub second : Record
+  pub in-first : In first (x .records)
+  pub in-second : In second (y .records)
+  pub left : s ≡ first .station
+  pub right : t ≡ second .station
+  pub codes : clip (limitsOf x y) (chosenCode c first) ≡ clip (limitsOf x y) (chosenCode c second)

@@ -5,9 +5,11 @@
 --     Books      from two books that meet to what is promised of them
 --     Afresh     `afresh`: where the stored codes are right, the pairs are those of encoding all names afresh
 --     Order      `in-order`, `once`: the pairs of two books that read rise, and none appears twice
+--     Listing    `all-pairs`: a pair is listed exactly when two records with its stations agree
 pub mod Copies
 pub mod Pairing
 pub mod Laying
 pub mod Books
 pub mod Afresh
 pub mod Order
+pub mod Listing

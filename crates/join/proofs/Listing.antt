@@ -1,0 +1,120 @@
+-- A join lists all pairs and no others: (s, t) is listed exactly when some record of the first book with the station s and some record of
+-- the second with the station t have codes that agree under the smaller limit. Assumes nothing.
+use Prim.Native.Nat.{ℕ}
+use mathlib.Core.Path.{_≡_, refl, sym, ap, _∙_}
+use mathlib.Core.Logic.{_⊎_, inl, inr, ⊎-elim, _↔_}
+use mathlib.Core.Bool.{Bool, true, false, cond}
+use mathlib.Core.List.{List, [], _∷_, List·Memᴰ·head, List·Memᴰ·tail, List·Memᴰ·not-nil, List·Memᴰ·cases-cons, Memᴰ·append-left, Memᴰ·append-right, List·Memᴰ·append-cases}
+use native.Mathlib.Omega.{arith}
+use Rattle.windows.specs.Text.{same}
+use Rattle.windows.proofs.Facts.{same-true, same-refl}
+use Rattle.encoder.specs.declared.Limit.{Limit}
+use Rattle.encoder.specs.declared.Choice.{Choice}
+use Rattle.book.specs.Book.{Record, Book}
+use Rattle.pairs.specs.Cut.{clip}
+use Rattle.pairs.specs.Pairs.{meets, beside, pairs}
+use Rattle.sides.specs.Sides.{chosenCode, codedAll, joinOf}
+use Rattle.join.specs.Afresh.{limitsOf}
+use Rattle.join.specs.Order.{In, Agree}
+
+-- a record among a book's, by its station and its key: the chosen code under m
+record Keyed (c : Choice) (m : Limit) (rs : List Record) (s : ℕ) (k : List ℕ) : Type 0 where
+  r : Record
+  among : In r rs
+  station : s ≡ r .station
+  key : k ≡ clip m (chosenCode c r)
+
+-- ---- a station beside others
+beside-out : (a : ℕ) (ts : List ℕ) (s t : ℕ) → In (s, t) (beside a ts) → (s ≡ a) × In t ts
+unfolding beside
+beside-out a [] s t d = absurd (List·Memᴰ·not-nil d)
+beside-out a (b ∷ ts) s t d =
+    ⊎-elim (λ (e : (s, t) ≡ (a, b)). (ap (λ (p : ℕ × ℕ). p .0) e, List·Memᴰ·head (ap (λ (p : ℕ × ℕ). p .1) e)))
+    (λ (z : In (s, t) (beside a ts)). let w = beside-out a ts s t z in (w .0, List·Memᴰ·tail (w .1))) (List·Memᴰ·cases-cons d)
+
+beside-in : (a : ℕ) (ts : List ℕ) (t : ℕ) → In t ts → In (a, t) (beside a ts)
+unfolding beside
+beside-in a [] t d = absurd (List·Memᴰ·not-nil d)
+beside-in a (b ∷ ts) t d =
+    ⊎-elim (λ (e : t ≡ b). List·Memᴰ·head (ap (λ (k : ℕ). (a, k)) e)) (λ (z : In t ts). List·Memᴰ·tail (beside-in a ts t z)) (List·Memᴰ·cases-cons d)
+
+module _ (c : Choice) (m : Limit) where
+  abbrev key-of : Record → List ℕ
+  key-of r = clip m (chosenCode c r)
+
+  later : (r : Record) {rs : List Record} {s : ℕ} {k : List ℕ} → Keyed c m rs s k → Keyed c m (r ∷ rs) s k
+  later r z = record { r = z .r; among = List·Memᴰ·tail (z .among); station = z .station; key = z .key }
+
+  -- ---- the second book's stations under a key are those of its records that have the key
+  met : (k : List ℕ) (rs : List Record) (t : ℕ) → In t (meets m k (codedAll c rs)) → Keyed c m rs t k
+  unfolding meets codedAll
+  met k [] t d = absurd (List·Memᴰ·not-nil d)
+  met k (r ∷ rs) t d = go (same k (key-of r)) refl (met k rs t) d
+    where
+      go : (b : Bool) → same k (key-of r) ≡ b → (In t (meets m k (codedAll c rs)) → Keyed c m rs t k)
+          → In t (cond b (r .station ∷ meets m k (codedAll c rs)) (meets m k (codedAll c rs))) → Keyed c m (r ∷ rs) t k
+      go true e ih d =
+          ⊎-elim (λ (p : t ≡ r .station). record { r = r; among = List·Memᴰ·head refl; station = p; key = same-true k (key-of r) e })
+          (λ (z : In t (meets m k (codedAll c rs))). later r (ih z)) (List·Memᴰ·cases-cons d)
+      go false e ih d = later r (ih d)
+
+  meet : (k : List ℕ) (rs : List Record) (r : Record) → k ≡ key-of r → In r rs → In (r .station) (meets m k (codedAll c rs))
+  unfolding meets codedAll
+  meet k [] r e d = absurd (List·Memᴰ·not-nil d)
+  meet k (q ∷ rs) r e d = go (same k (key-of q)) refl (meet k rs r e) (List·Memᴰ·cases-cons d)
+    where
+      yes : r ≡ q → same k (key-of q) ≡ true
+      yes p = ap (same k) (ap key-of (sym p) ∙ sym e) ∙ same-refl k
+
+      go : (b : Bool) → same k (key-of q) ≡ b → (In r rs → In (r .station) (meets m k (codedAll c rs))) → (r ≡ q) ⊎ In r rs
+          → In (r .station) (cond b (q .station ∷ meets m k (codedAll c rs)) (meets m k (codedAll c rs)))
+      go true f ih (inl p) = List·Memᴰ·head (ap (λ (r : Record). r .station) p)
+      go true f ih (inr z) = List·Memᴰ·tail (ih z)
+      go false f ih (inl p) = let z : _≡_ {A = ℕ} 0 1 = cc (f, yes p) in absurd (omega arith)
+      go false f ih (inr z) = ih z
+
+  -- ---- a pair is of two records with one key
+  found : (xs ys : List Record) (s t : ℕ) → In (s, t) (pairs m (codedAll c xs) (codedAll c ys)) → (k : List ℕ) × Keyed c m xs s k × Keyed c m ys t k
+  unfolding pairs codedAll
+  found [] ys s t d = absurd (List·Memᴰ·not-nil d)
+  found (r ∷ xs) ys s t d =
+      let row : List ℕ = meets m (key-of r) (codedAll c ys) in
+      ⊎-elim
+      (λ (z : In (s, t) (beside (r .station) row)).
+      let w = beside-out (r .station) row s t z in
+      (key-of r, record { r = r; among = List·Memᴰ·head refl; station = w .0; key = refl }, met (key-of r) ys t (w .1)))
+      (λ (z : In (s, t) (pairs m (codedAll c xs) (codedAll c ys))). let w = found xs ys s t z in (w .0, later r (w .1), w .2))
+      (List·Memᴰ·append-cases (beside (r .station) row) d)
+
+  shown : (xs ys : List Record) (p q : Record) → key-of p ≡ key-of q → In q ys → In p xs → In (p .station, q .station) (pairs m (codedAll c xs) (codedAll c ys))
+  unfolding pairs codedAll
+  shown [] ys p q e b d = absurd (List·Memᴰ·not-nil d)
+  shown (r ∷ xs) ys p q e b d =
+      let row : List ℕ = meets m (key-of r) (codedAll c ys) in
+      ⊎-elim
+      (λ (f : p ≡ r).
+      let z : In (q .station) row = meet (key-of r) ys q (ap key-of (sym f) ∙ e) b in
+      let w : In (p .station, q .station) (beside (r .station) row) = rw f (beside-in (r .station) row (q .station) z) in
+      Memᴰ·append-left (pairs m (codedAll c xs) (codedAll c ys)) w)
+      (λ (z : In p xs). Memᴰ·append-right (beside (r .station) row) (shown xs ys p q e b z))
+      (List·Memᴰ·cases-cons d)
+
+-- "all pairs of station numbers whose chosen code agrees on its first m bytes"
+pub all-pairs : (c : Choice) (x y : Book) (s t : ℕ) → In (s, t) (joinOf c x y) ↔ Agree c x y s t
+all-pairs c x y s t = (listed, agreed)
+  where
+    listed : In (s, t) (joinOf c x y) → Agree c x y s t
+    listed d =
+        let w = found c (limitsOf x y) (x .records) (y .records) s t d in
+        record {
+          first = w .1 .r;
+          second = w .2 .r;
+          in-first = w .1 .among;
+          in-second = w .2 .among;
+          left = w .1 .station;
+          right = w .2 .station;
+          codes = sym (w .1 .key) ∙ w .2 .key;
+        }
+
+    agreed : Agree c x y s t → In (s, t) (joinOf c x y)
+    agreed a = rw (a .left, a .right) (shown c (limitsOf x y) (x .records) (y .records) (a .first) (a .second) (a .codes) (a .in-second) (a .in-first))

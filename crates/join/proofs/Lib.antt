@@ -6,6 +6,7 @@
 --     Afresh     `afresh`: where the stored codes are right, the pairs are those of encoding all names afresh
 --     Order      `in-order`, `once`: the pairs of two books that read rise, and none appears twice
 --     Listing    `all-pairs`: a pair is listed exactly when two records with its stations agree
+--     NoChoice   no public function's promise leaves a choice
 pub mod Copies
 pub mod Pairing
 pub mod Laying
@@ -13,3 +14,4 @@ pub mod Books
 pub mod Afresh
 pub mod Order
 pub mod Listing
+pub mod NoChoice

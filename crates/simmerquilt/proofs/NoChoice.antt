@@ -1,5 +1,5 @@
--- No public function's promise leaves a choice: for the same arguments, any two lent arrays and buffers at exit that it admits are
--- equal. Assumes nothing.
+-- No public function's promise leaves a choice: for the same arguments, any two results, and any two lent arrays and buffers at exit,
+-- that it admits are equal. Assumes nothing.
 use mathlib.Core.Path.{_≡_, sym, _∙_}
 use borrow.Fn.Kinds.{Dens, resT, endedOf}
 use denote.Ref.{now}
@@ -20,6 +20,12 @@ use Rattle.simmerquilt.proofs.books.simmerquilt_book_add.Kinds as book-
 use Rattle.simmerquilt.proofs.books.simmerquilt_book_add.Reads as book-add
 use Rattle.simmerquilt.proofs.books.simmerquilt_book_append.Kinds as book-append-kinds
 use Rattle.simmerquilt.proofs.books.simmerquilt_book_append.Reads as book-append
+use Rattle.simmerquilt.proofs.joins.simmerquilt_join_scratch.Kinds as join-scratch-kinds
+use Rattle.simmerquilt.proofs.joins.simmerquilt_join_scratch.Reads as join-scratch
+use Rattle.simmerquilt.proofs.joins.simmerquilt_join_count.Kinds as join-count-kinds
+use Rattle.simmerquilt.proofs.joins.simmerquilt_join_count.Reads as join-count
+use Rattle.simmerquilt.proofs.joins.simmerquilt_join.Kinds as join-kinds
+use Rattle.simmerquilt.proofs.joins.simmerquilt_join.Reads as join
 use contract.Lifetimes.{Lfts}
 
 -- the word, the two buffers, two numbers and the answer: the buffers at exit are the second and the third, the answer the sixth
@@ -71,3 +77,27 @@ module _ (κs : Lfts 3) (a : Dens κs book-append-kinds.ps) (x y : resT book-app
 
   pub one-append-room : book-append.Post κs a x s → book-append.Post κs a y t → now (s .0) ≡ now (t .0)
   one-append-room p q = p .1 ∙ sym (q .1)
+
+-- the join's: the number of words is a result; the scratch at exit is the fourth, the room the fifth, the answer the sixth
+module _ (κs : Lfts 0) (a : Dens κs join-scratch-kinds.ps) (x y : resT join-scratch-kinds.r κs .Denot) (s t : AtExit (endedOf 0 join-scratch-kinds.ps join-scratch-kinds.r) κs) where
+  pub one-words : join-scratch.Post κs a x s → join-scratch.Post κs a y t → x ≡ y
+  one-words p q = p ∙ sym q
+
+module _ (κs : Lfts 4) (a : Dens κs join-count-kinds.ps) (x y : resT join-count-kinds.r κs .Denot) (s t : AtExit (endedOf 4 join-count-kinds.ps join-count-kinds.r) κs)
+    (p : join-count.Post κs a x s) (q : join-count.Post κs a y t) where
+  pub one-count-numbers : now (s .1 .1 .1 .1 .1 .0) ≡ now (t .1 .1 .1 .1 .1 .0)
+  one-count-numbers = p .0 ∙ sym (q .0)
+
+  pub one-count-scratch : now (s .1 .1 .1 .0) ≡ now (t .1 .1 .1 .0)
+  one-count-scratch = p .1 ∙ sym (q .1)
+
+module _ (κs : Lfts 5) (a : Dens κs join-kinds.ps) (x y : resT join-kinds.r κs .Denot) (s t : AtExit (endedOf 5 join-kinds.ps join-kinds.r) κs)
+    (p : join.Post κs a x s) (q : join.Post κs a y t) where
+  pub one-join-numbers : now (s .1 .1 .1 .1 .1 .0) ≡ now (t .1 .1 .1 .1 .1 .0)
+  one-join-numbers = p .0 ∙ sym (q .0)
+
+  pub one-join-room : now (s .1 .1 .1 .1 .0) ≡ now (t .1 .1 .1 .1 .0)
+  one-join-room = p .1 .0 ∙ sym (q .1 .0)
+
+  pub one-join-scratch : now (s .1 .1 .1 .0) ≡ now (t .1 .1 .1 .0)
+  one-join-scratch = p .1 .1 ∙ sym (q .1 .1)

@@ -18,14 +18,38 @@ pub struct Setting {
     names: fn(&mut Rng, usize) -> Vec<String>,
     /// How many stations a gauge has in a list, each in its own spelling.
     stations: usize,
+    /// Whether the wanted speed is asked of it.
+    pub wanted: bool,
 }
 
 /// The cuts of the offices that the join is for, where a million records are left out: four bytes tell about a thousand keys apart, so
-/// that there would be a thousand million pairs. Then cuts that leave most gauges a key of their own.
+/// that there would be a thousand million pairs. Then lists with about forty pairs a record at every size, as four bytes leave them in
+/// lists of forty thousand; and lists in which nearly each gauge has a key of its own, which are told and not asked anything.
 pub const SETTINGS: [Setting; 3] = [
-    Setting { name: "gauges", limits: [Some(4), Some(6)], sizes: SIZES.split_at(3).0, names: gauges, stations: 1 },
-    Setting { name: "places", limits: [Some(12), None], sizes: &SIZES, names: at_places, stations: 1 },
-    Setting { name: "places, 16 stations each", limits: [Some(12), None], sizes: &SIZES, names: at_places, stations: 16 },
+    Setting {
+        name: "gauges",
+        limits: [Some(4), Some(6)],
+        sizes: SIZES.split_at(3).0,
+        names: gauges,
+        stations: 1,
+        wanted: true,
+    },
+    Setting {
+        name: "places, 80 stations each",
+        limits: [Some(12), None],
+        sizes: &SIZES,
+        names: at_places,
+        stations: 80,
+        wanted: true,
+    },
+    Setting {
+        name: "places, few pairs",
+        limits: [Some(12), None],
+        sizes: &SIZES,
+        names: at_places,
+        stations: 1,
+        wanted: false,
+    },
 ];
 
 impl Setting {

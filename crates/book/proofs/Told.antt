@@ -1,12 +1,12 @@
 -- From the answers of the field readers to those of the book's.
 use Prim.Native.Nat.{ℕ, _+_, _-_, _^_, _≤_, _<_, min}
 use mathlib.Core.Path.{_≡_, refl, sym, ap, _∙_}
-use mathlib.Core.Bool.{Bool, true, false}
-use mathlib.Core.List.{List}
+use mathlib.Core.Bool.{Bool, true, false, cond, _||_}
+use mathlib.Core.List.{List, [], _∷_}
 use native.Mathlib.Numerals.{add-one}
 use native.Mathlib.Omega.{arith}
-use borrow.Author.Tests.{lt-ltb, le-ltb, le-leb, lt-leb, ne-eqb, eq-eqb, leb-true, leb-false, ltb-true, ltb-false}
-use lib.Dec.{ltb, leb}
+use borrow.Author.Tests.{lt-ltb, le-ltb, le-leb, lt-leb, leb-true, leb-false, ltb-true, ltb-false, not-true, not-false}
+use lib.Dec.{ltb, leb, eqb}
 use lib.ListN.{length, take, drop, getD, length-drop}
 use lib.Seq.{drop-cons, take-all}
 use Rattle.fields.specs.declared.Span.{Span}
@@ -18,6 +18,7 @@ use Rattle.fields.specs.Field.{number, text, readNumber, readBytes, readText, f
 use Rattle.fields.specs.Told.{valueAt, spanAt, partAt, bytesAt}
 use Rattle.fields.proofs.Field.{number-law, text-law, some-number, bytes-bad, bytes-good, bytes-short, none-in}
 use Rattle.fields.proofs.Told.{value-told, value-fault, part-told, part-fault, then-good, then-first, then-second}
+use Rattle.encoder.specs.Trim.{anyHigh, isAscii}
 use Rattle.encoder.specs.Numbers.{wordLimit}
 use Rattle.book.specs.declared.Opened.the-variants as opened
 use Rattle.book.specs.declared.Codes.the-variants as codes
@@ -193,18 +194,20 @@ module _ (s : List ℕ) (at floor : ℕ) where
       number-law (rising floor) .fine (drop at s) v (x .n) (x .is) .small
 
 -- ---- a name
-pub high : (b : ℕ) → 128 ≤ b → 2 ≡ nameByte b
-high b h = rw (le-leb 128 b h)
+-- one bad byte shows the fault, whichever it is
+fault-of : (w : List ℕ) → faultIn nameByte w ≡ cond (anyHigh w) 2 0
+fault-of [] = refl
+fault-of (b ∷ w) = go (leb 128 b) (fault-of w)
+  where
+    go : (q : Bool) → faultIn nameByte w ≡ cond (anyHigh w) 2 0 → cond (eqb (cond q 2 0) 0) (faultIn nameByte w) (cond q 2 0) ≡ cond (q || anyHigh w) 2 0
+    go true h = refl
+    go false h = h
 
-pub low : (b : ℕ) → b < 128 → 0 ≡ nameByte b
-low b h = rw (lt-leb 128 b h)
+pub ascii-clean : (w : List ℕ) → isAscii w ≡ true → 0 ≡ faultIn nameByte w
+ascii-clean w e = sym (fault-of w ∙ ap (λ (q : Bool). cond q 2 0) (not-true (anyHigh w) e))
 
-module _ (w : List ℕ) (i f : ℕ) (h : i < length w) (e : f ≡ nameByte (getD w i 0)) where
-  pub fault-here : (f ≡ 0 → ⊥) → faultIn nameByte (drop i w) ≡ f
-  fault-here z = rw (drop-cons w i 0 h, ← e, ne-eqb f 0 z)
-
-  pub fault-behind : f ≡ 0 → faultIn nameByte (drop i w) ≡ faultIn nameByte (drop (i + 1) w)
-  fault-behind z = rw (add-one i, drop-cons w i 0 h, ← e, eq-eqb f 0 z)
+pub ascii-bad : (w : List ℕ) → isAscii w ≡ false → 2 ≡ faultIn nameByte w
+ascii-bad w e = sym (fault-of w ∙ ap (λ (q : Bool). cond q 2 0) (not-false (anyHigh w) e))
 
 pub take-least : (k : ℕ) (w : List ℕ) → take (min k (length w)) w ≡ take k w
 take-least k w = go (leb k (length w)) refl

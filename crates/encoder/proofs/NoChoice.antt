@@ -11,6 +11,8 @@ use Rattle.encoder.proofs.Encoder.default.Kinds as default-kinds
 use Rattle.encoder.proofs.Encoder.default.Reads as default
 use Rattle.encoder.proofs.Encoder.encode.Kinds as encode-kinds
 use Rattle.encoder.proofs.Encoder.encode.Reads as encode
+use Rattle.encoder.proofs.is_ascii.Kinds as is-ascii-kinds
+use Rattle.encoder.proofs.is_ascii.Reads as is-ascii
 use Rattle.encoder.proofs.chosen.Kinds as chosen-kinds
 use Rattle.encoder.proofs.chosen.Reads as chosen
 use contract.Lifetimes.{Lfts}
@@ -32,6 +34,9 @@ module _ (κs : Lfts 3) (a : Dens κs encode-kinds.ps) (x y : resT encode-kinds.
 
   pub one-alternate : now (s .1 .1 .1 .0) ≡ now (t .1 .1 .1 .0)
   one-alternate = p .alternate ∙ rw one-encode (sym (q .alternate))
+
+pub one-is-ascii : OneResult is-ascii-kinds.ps is-ascii-kinds.r is-ascii.Post
+one-is-ascii κs a x y s t p q = p ∙ sym q
 
 module _ (κs : Lfts 1) (a : Dens κs chosen-kinds.ps) (x y : resT chosen-kinds.r κs .Denot) (s t : AtExit (endedOf 1 chosen-kinds.ps chosen-kinds.r) κs) where
   pub one-chosen : chosen.Post κs a x s → chosen.Post κs a y t → now x ≡ now y

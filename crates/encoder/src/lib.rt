@@ -49,7 +49,7 @@ fn is_blank(b: u8) -> bool
 }
 
 // Whether no byte is 128 or more. Every byte is read, since a loop with one way out is compiled to wide steps.
-fn is_ascii(w: &[u8]) -> bool
+pub fn is_ascii(w: &[u8]) -> bool
     ensures { λ r. ⌜ r ≡ isAscii (now (w .entry)) ⌝ }
 {
     let mut high = false;

@@ -1,0 +1,17 @@
+-- `letters_w_z::x::handle_x` meets its contract: at each return the tests on the way lead the tree there. Assumes nothing.
+use Rattle.rules.specs.Cond.{holds}
+use Rattle.rules.proofs.Tree.{spoken, says}
+use Rattle.letters_w_z.specs.Trees.{treeX}
+use Rattle.letters_w_z.proofs.Ways.{ways-X}
+use Rattle.letters_w_z.proofs.x.handle_x.Statement.{statement}
+use Rattle.letters_w_z.proofs.x.handle_x.Tie as tie
+
+pub handle-x-spec : {M : Type 1} → statement M
+unfolding holds treeX
+handle-x-spec =
+    tie.close
+    (tie.spec
+    (λ c κs. tt)
+    (λ c κs. tt)
+    (λ c. spoken ways-X (search says depth 14))
+    (λ c. spoken ways-X (search says depth 14)))

@@ -19,10 +19,10 @@ abbrev μ-loop : tie.MeasureT-loop
 μ-loop x y i₀ i = length x - i
 
 returns : tie.Need-returns Inv-loop μ-loop
-returns c = sym (lengths-differ (now (c .before .args .x)) (now (c .before .args .y)) (c .if1 .taken))
+returns c = sym (lengths-differ (now (c .before .args .x)) (now (c .before .args .y)) (λ e. omega (arith, e, c .if1 .taken)))
 
 loop-holds : tie.Need-loop-holds Inv-loop μ-loop
-loop-holds c = (c .if1 .left, refl)
+loop-holds c = (omega (arith, c .if1 .left), refl)
 
 shared-slice-read-if2 : tie.Need-shared-slice-read-if2 Inv-loop μ-loop
 shared-slice-read-if2 c = search needs

@@ -16,8 +16,8 @@ use Rattle.book_laws.proofs.Grows.{longer}
 use Rattle.pairs.specs.Cut.{clip}
 use Rattle.pairs.specs.Pairs.{Coded, pairs}
 use Rattle.pairs.proofs.Fresh as fresh
-use Rattle.sides.specs.Sides.{chosenCode, codedAll, joinOf}
-use Rattle.join.specs.Afresh.{RightUnder, AllRight, Right, limitsOf, freshly}
+use Rattle.sides.specs.Sides.{chosenCode, codedAll, joinOf, limitsOf}
+use Rattle.join.specs.Afresh.{RightUnder, AllRight, Right, freshly}
 
 -- demand 3: a code under a limit is the unlimited one, cut
 cut-code : (c : Choice) (l : Limit) (w : List ℕ) → codeOf l c w ≡ clip l (codeOf Whole c w)

@@ -13,8 +13,7 @@ use Rattle.encoder.specs.declared.Choice.{Choice}
 use Rattle.book.specs.Book.{Record, Book}
 use Rattle.pairs.specs.Cut.{clip}
 use Rattle.pairs.specs.Pairs.{meets, beside, pairs}
-use Rattle.sides.specs.Sides.{chosenCode, codedAll, joinOf}
-use Rattle.join.specs.Afresh.{limitsOf}
+use Rattle.sides.specs.Sides.{chosenCode, codedAll, joinOf, limitsOf}
 use Rattle.join.specs.Order.{In, Agree}
 
 -- a record among a book's, by its station and its key: the chosen code under m

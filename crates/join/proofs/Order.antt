@@ -14,8 +14,7 @@ use Rattle.book.specs.Book.{Record, Book, readBook}
 use Rattle.book_laws.specs.Good as book
 use Rattle.book_laws.proofs.Good.{only-book}
 use Rattle.pairs.proofs.Order.{Rises, none, more, Rising, end, next, pairs-rise}
-use Rattle.sides.specs.Sides.{codedAll, joinOf}
-use Rattle.join.specs.Afresh.{limitsOf}
+use Rattle.sides.specs.Sides.{codedAll, joinOf, limitsOf}
 use Rattle.join.specs.Order.{Before, InOrder, Once}
 
 -- ---- from a list that rises to places in it

@@ -8,7 +8,6 @@ use Rattle.encoder.specs.declared.Choice.the-variants.{Primary, Alternate}
 use Rattle.encoder.specs.Chosen.{codeOf}
 use Rattle.book.specs.Book.{Record, Book}
 use Rattle.writer.specs.Made.{limitOf}
-use Rattle.pairs.specs.Cut.{smaller}
 use Rattle.pairs.specs.Pairs.{Coded}
 
 -- a record's codes are those of its name under a limit
@@ -23,10 +22,6 @@ AllRight l (r ∷ rs) = RightUnder l r × AllRight l rs
 -- a book whose codes are right under its own cut
 abbrev pub Right : Book → Type 0
 Right b = AllRight (limitOf (b .header .cut)) (b .records)
-
--- m, the smaller limit of two books
-abbrev pub limitsOf : Book → Book → Limit
-limitsOf x y = smaller (limitOf (x .header .cut)) (limitOf (y .header .cut))
 
 -- what a join sees of records whose names are encoded now, whatever codes are stored
 unfoldable pub freshly : Limit → Choice → List Record → List Coded

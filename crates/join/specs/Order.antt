@@ -7,8 +7,7 @@ use lib.ListN.{length, getD}
 use Rattle.encoder.specs.declared.Choice.{Choice}
 use Rattle.book.specs.Book.{Record, Book}
 use Rattle.pairs.specs.Cut.{clip}
-use Rattle.sides.specs.Sides.{chosenCode}
-use Rattle.join.specs.Afresh.{limitsOf}
+use Rattle.sides.specs.Sides.{chosenCode, limitsOf}
 
 -- by the first number, then by the second
 abbrev pub Before : ℕ × ℕ → ℕ × ℕ → Type 0

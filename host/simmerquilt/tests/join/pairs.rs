@@ -134,6 +134,27 @@ fn a_short_code_counts_whole() {
     assert_eq!(joined(&with_codes(Some(4), zeros), &with_codes(Some(6), zeros)), [(0, 0), (1, 1), (2, 2)]);
 }
 
+/// The slot that the library has for a key in a book of so many records.
+fn slot(key: &[u8], records: usize) -> u64 {
+    key.iter().fold(0, |slot, byte| (slot * 16_777_619 + u64::from(*byte) + 1) % (1 << 32)) % (records as u64 + 1)
+}
+
+#[test]
+fn a_crafted_book_changes_nothing() {
+    // All codes of the book fall into one slot, and each stands in it twice.
+    let records = 600;
+    let codes: Vec<[u8; 3]> = (0..1 << 24_u32)
+        .map(|code| [code as u8, (code >> 8) as u8, (code >> 16) as u8])
+        .filter(|code| slot(code, records) == 7)
+        .take(records / 2)
+        .collect();
+    let codes = || codes.iter().chain(&codes).map(|code| &code[..]);
+    assert_eq!(codes().count(), records);
+    let [crafted, first] = [None, Some(4)].map(|limit| with_codes(limit, codes()));
+    same(first.as_bytes(), crafted.as_bytes(), &mut Joiner::new());
+    assert_eq!(joined(&first, &crafted).len(), 2 * records);
+}
+
 #[test]
 fn long_codes_that_differ_late() {
     let mut codes = vec![vec![b'A'; 100_000]; 6];

@@ -1,5 +1,5 @@
 -- Laws of two books that are to be joined.
---     Books      what is told of a book that was read, and of two, by the tests that the code makes; what the layer above needs
+--     Books      what is told of a book that was read, and of two that meet or are refused; stations are small
 --     Laid       records laid out in scratch words, one after the other
 --     NoChoice   no public function's promise leaves a choice
 pub mod Books

@@ -1,5 +1,5 @@
 -- The C face: a host's numbers as the encoder's limit and choice, a cursor and an end. What the answers are is the encoder's, the equality
--- question's, the book's and the writer's own definition; their numbers are those of crates/answers.
+-- question's, the book's, the writer's and the join's own definition; their numbers are those of crates/answers.
 use Prim.Native.Nat.{ℕ}
 use mathlib.Core.Bool.{Bool, true, false}
 use Rattle.encoder.specs.declared.Limit.{Limit}

@@ -1,10 +1,9 @@
 // The join of two station key books, for hosts.
 use crate::choice_of;
 ghost use mathlib.Core.Path.{_≡_};
-ghost use Prim.Native.Nat.{min};
 ghost use lib.ListN.{length};
 ghost use Rattle.book.specs.Book.{readBook};
-ghost use Rattle.sides.specs.Sides.{wordsFor};
+ghost use Rattle.sides.specs.Sides.{wordsTold};
 ghost use Rattle.join.specs.Join.{countBy, joinBy, roomBy, scratchBy};
 ghost use Rattle.answers.specs.Numbers.{joinedNumbers};
 ghost use Rattle.simmerquilt.specs.Face.{choiceOf};
@@ -12,7 +11,7 @@ ghost use Rattle.simmerquilt.specs.Face.{choiceOf};
 // How many scratch words the join of books with so many records needs; the largest number where that does not fit.
 #[no_mangle]
 pub extern "C" fn simmerquilt_join_scratch(first: usize, second: usize) -> usize
-    ensures { λ r. ⌜ r ≡ min (wordsFor first second) 18446744073709551615 ⌝ }
+    ensures { λ r. ⌜ r ≡ wordsTold first second ⌝ }
 {
     sides::scratch_words(first, second)
 }

@@ -1,5 +1,5 @@
-// The C face: the encoder, the equality question and the station key book (books.rt) for hosts, on numbers and byte slices only. A
-// slice is a pointer and a length; answers go to arrays that the caller lends, so that nothing is returned by value.
+// The C face: the encoder, the equality question, the station key book (books.rt) and the join (joins.rt) for hosts, on numbers and
+// slices of numbers only. A slice is a pointer and a length; answers go to arrays that the caller lends, and one number is returned.
 mod books;
 mod joins;
 

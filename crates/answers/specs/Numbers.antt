@@ -2,6 +2,8 @@
 use Prim.Native.Nat.{ℕ}
 use mathlib.Core.List.{List, [], _∷_}
 use Rattle.encoder.specs.declared.Answer.{Answer}
+use Rattle.encoder.specs.declared.Reply.{Reply}
+use Rattle.encoder.specs.declared.Reply.the-variants as reply
 use Rattle.encoder.specs.Encode.{numberOf, placeOf, primaryLength, alternateLength, visitCount}
 use Rattle.equality.specs.declared.Verdict.{Verdict}
 use Rattle.equality.specs.Equality as equality
@@ -21,6 +23,11 @@ use Rattle.join.specs.declared.Joined.the-variants as joined
 -- number, place, primary length, alternate length, visits
 abbrev pub answerNumbers : Answer → List ℕ
 answerNumbers r = numberOf r ∷ placeOf r ∷ primaryLength r ∷ alternateLength r ∷ visitCount r ∷ []
+
+-- the same of a reply: 7 for an edition that is not known
+abbrev pub replyNumbers : Reply → List ℕ
+replyNumbers (reply.Answered r) = answerNumbers r
+replyNumbers reply.UnknownEdition = 7 ∷ 0 ∷ 0 ∷ 0 ∷ 0 ∷ []
 
 -- number, which word, place, and 1 for equal
 abbrev pub verdictNumbers : Verdict → List ℕ

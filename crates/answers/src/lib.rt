@@ -3,12 +3,13 @@ use book::Opened;
 use book::Step;
 use book::Whole;
 use encoder::Answer;
+use encoder::Reply;
 use equality::Verdict;
 use join::Joined;
 use writer::Ended;
 use writer::Made;
 ghost use mathlib.Core.Path.{_≡_};
-ghost use Rattle.answers.specs.Numbers.{answerNumbers, verdictNumbers, madeNumbers, openedNumbers, stepNumbers, wholeNumbers, endedNumbers, joinedNumbers};
+ghost use Rattle.answers.specs.Numbers.{answerNumbers, replyNumbers, verdictNumbers, madeNumbers, openedNumbers, stepNumbers, wholeNumbers, endedNumbers, joinedNumbers};
 
 // Number, place, both lengths and visits.
 pub fn tell_answer(answer: Answer, out: &mut [u64; 5])
@@ -33,6 +34,18 @@ pub fn tell_answer(answer: Answer, out: &mut [u64; 5])
         }
         Answer::AlternateShort => {
             *out = [4, 0, 0, 0, 0];
+        }
+    }
+}
+
+// The same, and 7 for an edition that is not known.
+pub fn tell_reply(reply: Reply, out: &mut [u64; 5])
+    ensures { λ _. ⌜ now (out .exit) ≡ replyNumbers reply ⌝ }
+{
+    match reply {
+        Reply::Answered(answer) => tell_answer(answer, out),
+        Reply::UnknownEdition => {
+            *out = [7, 0, 0, 0, 0];
         }
     }
 }

@@ -20,6 +20,7 @@ use Rattle.fields.proofs.Field.{number-law, text-law, some-number, bytes-bad, b
 use Rattle.fields.proofs.Told.{value-told, value-fault, part-told, part-fault, then-good, then-first, then-second}
 use Rattle.encoder.specs.Trim.{anyHigh, isAscii}
 use Rattle.encoder.specs.Numbers.{wordLimit}
+use Rattle.encoder.specs.Editions.{lastEdition}
 use Rattle.book.specs.declared.Opened.the-variants as opened
 use Rattle.book.specs.declared.Codes.the-variants as codes
 use Rattle.book.specs.declared.Step.the-variants as step
@@ -41,41 +42,44 @@ module _ (s : List ℕ) where
   abbrev r₁ : List ℕ → Got ℕ
   r₁ = readNumber (known 1)
 
+  abbrev r₂ : List ℕ → Got ℕ
+  r₂ = readNumber (known lastEdition)
+
   abbrev r₃ : List ℕ → Got ℕ
   r₃ = readNumber any
 
   abbrev two : List ℕ → Got (Both ℕ ℕ)
-  two = readBoth r₁ r₃
+  two = readBoth r₂ r₃
 
-  pub opens : (f b e l c n : ℕ) → valueAt 0 (r₁ (drop 0 s)) ≡ value.At f b → valueAt b (r₁ (drop b s)) ≡ value.At e l → valueAt l (r₃ (drop l s)) ≡ value.At c n
+  pub opens : (f b e l c n : ℕ) → valueAt 0 (r₁ (drop 0 s)) ≡ value.At f b → valueAt b (r₂ (drop b s)) ≡ value.At e l → valueAt l (r₃ (drop l s)) ≡ value.At c n
       → opened.Book (record { format = f; edition = e; cut = c }) (record { at = n; floor = 0 }) ≡ openedBy (readHeader s)
   unfolding readHeader
   opens f b e l c n p q t =
       let x = value-told 0 f b (r₁ (drop 0 s)) p in
-      let y = value-told b e l (r₁ (drop b s)) q in
+      let y = value-told b e l (r₂ (drop b s)) q in
       let z = value-told l c n (r₃ (drop l s)) t in
       let k : n ≡ x .n + (y .n + z .n) = omega (arith, x .place, y .place, z .place) in
       let w : two (drop (0 + x .n) s) ≡ good (record { front = e; behind = c }) (y .n + z .n) =
-      rw (x .place) (then-good r₁ r₃ s b e (y .n) c (z .n) (y .is) (rw (y .place) (z .is))) in
+      rw (x .place) (then-good r₂ r₃ s b e (y .n) c (z .n) (y .is) (rw (y .place) (z .is))) in
       ap (λ (i : ℕ). opened.Book (record { format = f; edition = e; cut = c }) (record { at = i; floor = 0 })) k
       ∙ sym (ap (λ (g : Got (Both ℕ (Both ℕ ℕ))). openedBy (mapped headerOf g)) (then-good r₁ two s 0 f (x .n) (record { front = e; behind = c }) (y .n + z .n) (x .is) w))
 
-  pub opens-third : (f b e l g : ℕ) → valueAt 0 (r₁ (drop 0 s)) ≡ value.At f b → valueAt b (r₁ (drop b s)) ≡ value.At e l → valueAt l (r₃ (drop l s)) ≡ value.Fault g
+  pub opens-third : (f b e l g : ℕ) → valueAt 0 (r₁ (drop 0 s)) ≡ value.At f b → valueAt b (r₂ (drop b s)) ≡ value.At e l → valueAt l (r₃ (drop l s)) ≡ value.Fault g
       → opened.Fault g ≡ openedBy (readHeader s)
   unfolding readHeader
   opens-third f b e l g p q t =
       let x = value-told 0 f b (r₁ (drop 0 s)) p in
-      let y = value-told b e l (r₁ (drop b s)) q in
+      let y = value-told b e l (r₂ (drop b s)) q in
       let w : two (drop (0 + x .n) s) ≡ bad g =
-      rw (x .place) (then-second r₁ r₃ s b e (y .n) g (y .is) (rw (y .place) (value-fault l g (r₃ (drop l s)) t))) in
+      rw (x .place) (then-second r₂ r₃ s b e (y .n) g (y .is) (rw (y .place) (value-fault l g (r₃ (drop l s)) t))) in
       sym (ap (λ (j : Got (Both ℕ (Both ℕ ℕ))). openedBy (mapped headerOf j)) (then-second r₁ two s 0 f (x .n) g (x .is) w))
 
-  pub opens-second : (f b g : ℕ) → valueAt 0 (r₁ (drop 0 s)) ≡ value.At f b → valueAt b (r₁ (drop b s)) ≡ value.Fault g
+  pub opens-second : (f b g : ℕ) → valueAt 0 (r₁ (drop 0 s)) ≡ value.At f b → valueAt b (r₂ (drop b s)) ≡ value.Fault g
       → opened.Fault g ≡ openedBy (readHeader s)
   unfolding readHeader
   opens-second f b g p q =
       let x = value-told 0 f b (r₁ (drop 0 s)) p in
-      let w : two (drop (0 + x .n) s) ≡ bad g = rw (x .place) (then-first r₁ r₃ s b g (value-fault b g (r₁ (drop b s)) q)) in
+      let w : two (drop (0 + x .n) s) ≡ bad g = rw (x .place) (then-first r₂ r₃ s b g (value-fault b g (r₂ (drop b s)) q)) in
       sym (ap (λ (j : Got (Both ℕ (Both ℕ ℕ))). openedBy (mapped headerOf j)) (then-second r₁ two s 0 f (x .n) g (x .is) w))
 
   pub opens-first : (g : ℕ) → valueAt 0 (r₁ (drop 0 s)) ≡ value.Fault g → opened.Fault g ≡ openedBy (readHeader s)

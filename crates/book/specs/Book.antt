@@ -12,6 +12,7 @@ pub use Rattle.fields.specs.Got.{Got, good, bad, Both}
 use Rattle.fields.specs.Got.{readBoth, mapped, readAll, writeAll}
 use Rattle.fields.specs.Field.{number, text, readNumber, readText, any}
 use Rattle.encoder.specs.Numbers.{wordLimit}
+use Rattle.encoder.specs.Editions.{lastEdition}
 pub use Rattle.book.specs.declared.Header.{Header}
 
 pub record Record : Type 0 where
@@ -54,7 +55,7 @@ abbrev pub headerOf : Both ℕ (Both ℕ ℕ) → Header
 headerOf p = record { format = p .front; edition = p .behind .front; cut = p .behind .behind }
 
 unfoldable pub readHeader : List ℕ → Got Header
-readHeader l = mapped headerOf (readBoth (readNumber (known 1)) (readBoth (readNumber (known 1)) (readNumber any)) l)
+readHeader l = mapped headerOf (readBoth (readNumber (known 1)) (readBoth (readNumber (known lastEdition)) (readNumber any)) l)
 
 abbrev pub Texts : Type 0
 Texts = Both (List ℕ) (Both (List ℕ) (List ℕ))

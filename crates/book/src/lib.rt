@@ -17,7 +17,7 @@ use fields::Value;
 // The formats and the rule editions that are known are those from 1 up to these.
 pub const FORMAT: u32 = 1;
 
-pub const EDITION: u32 = 1;
+pub const EDITION: u32 = 2;
 
 // The cut is 0 for none, else the limit plus 1.
 pub struct Header {

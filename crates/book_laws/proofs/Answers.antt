@@ -12,6 +12,7 @@ use Rattle.fields.specs.Got.{Got, good, bad, readBoth}
 use Rattle.fields.specs.Field.{readNumber, readText, any}
 use Rattle.fields.proofs.Law.{same-fault}
 use Rattle.fields.proofs.Faults.{Only, Judged, only-number, only-text, only-both, only-mapped, only-all}
+use Rattle.encoder.specs.Editions.{lastEdition}
 use Rattle.book.specs.declared.Header.{Header}
 use Rattle.book.specs.Book.{Record, Book, known, rising, nameLength, nameByte, headerOf, recordOf, readHeader, readRecord, above, readRecords, under, behindHeader, readBook}
 use Rattle.book_laws.specs.Answers.{isFault, Answer, reads, shows}
@@ -57,10 +58,11 @@ no-judge v z = absurd (z refl)
 header-faults : Only IsFault readHeader
 unfolding readHeader
 header-faults =
-    let k = only-number IsFault refl refl (known 1) (known-fault 1) in
+    let f = only-number IsFault refl refl (known 1) (known-fault 1) in
+    let e = only-number IsFault refl refl (known lastEdition) (known-fault lastEdition) in
     let c = only-number IsFault refl refl any no-judge in
-    only-mapped IsFault headerOf (readBoth (readNumber (known 1)) (readBoth (readNumber (known 1)) (readNumber any)))
-    (only-both IsFault (readNumber (known 1)) (readBoth (readNumber (known 1)) (readNumber any)) k (only-both IsFault (readNumber (known 1)) (readNumber any) k c))
+    only-mapped IsFault headerOf (readBoth (readNumber (known 1)) (readBoth (readNumber (known lastEdition)) (readNumber any)))
+    (only-both IsFault (readNumber (known 1)) (readBoth (readNumber (known lastEdition)) (readNumber any)) f (only-both IsFault (readNumber (known lastEdition)) (readNumber any) e c))
 
 pub record-faults : (floor : ℕ) → Only IsFault (readRecord floor)
 unfolding readRecord

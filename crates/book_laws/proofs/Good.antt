@@ -4,7 +4,7 @@ use mathlib.Core.Path.{_≡_, refl}
 use mathlib.Core.Bool.{Bool, true, false, cond}
 use mathlib.Core.List.{List, [], _∷_}
 use native.Mathlib.Omega.{arith}
-use borrow.Author.Tests.{le-ltb, ltb-true, ltb-false, leb-true}
+use borrow.Author.Tests.{lt-ltb, le-ltb, le-leb, ltb-true, ltb-false, leb-true}
 use lib.Dec.{ltb, leb, eqb}
 use lib.ListN.{length}
 use Rattle.number.specs.Septets.{Bytes}
@@ -14,6 +14,7 @@ use Rattle.fields.specs.Got.{good}
 use Rattle.fields.specs.Field.{faultIn}
 use Rattle.fields.proofs.Field.{none-in}
 use Rattle.fields.proofs.All as all
+use Rattle.encoder.specs.Editions.{lastEdition}
 use Rattle.book.specs.declared.Header.{Header}
 use Rattle.book.specs.Book.{Record, Book, written, known, rising, nameLength, nameByte, above, readBook}
 use Rattle.book_laws.specs.Good.{GoodHeader, GoodRecord, GoodRecords, none, more}
@@ -34,7 +35,7 @@ header-fine : (h : Header) → GoodHeader h → FineHeader h
 header-fine h x = record {
   front = record { small = rw (x .format) (omega arith); judged = rw (x .format) };
   behind = record {
-    front = record { small = rw (x .edition) (omega arith); judged = rw (x .edition) };
+    front = record { small = omega (arith, x .edition .1); judged = rw (lt-ltb 0 (h .edition) (x .edition .0), le-leb (h .edition) lastEdition (x .edition .1)) };
     behind = record { small = x .cut; judged = refl };
   };
 }
@@ -56,13 +57,13 @@ records-fine floor [] none = all.none
 records-fine floor (r ∷ rs) (more x xs) = all.more (record-fine floor r x) (records-fine (above r) rs xs)
 
 -- ---- and back
-is-one : (v : ℕ) → known 1 v ≡ 0 → v ≡ 1
-is-one v e = go (ltb 0 v) refl (leb v 1) refl e
+is-known : (most v : ℕ) → known most v ≡ 0 → (1 ≤ v) × (v ≤ most)
+is-known most v e = go (ltb 0 v) refl (leb v most) refl e
   where
-    go : (p : Bool) → ltb 0 v ≡ p → (q : Bool) → leb v 1 ≡ q → _≡_ {A = ℕ} (cond p (cond q 0 7) 7) 0 → v ≡ 1
+    go : (p : Bool) → ltb 0 v ≡ p → (q : Bool) → leb v most ≡ q → _≡_ {A = ℕ} (cond p (cond q 0 7) 7) 0 → (1 ≤ v) × (v ≤ most)
     go false d q f e = absurd (omega arith)
     go true d false f e = absurd (omega arith)
-    go true d true f e = omega (arith, ltb-true 0 v d, leb-true v 1 f)
+    go true d true f e = (ltb-true 0 v d, leb-true v most f)
 
 not-below : (floor v : ℕ) → rising floor v ≡ 0 → floor ≤ v
 not-below floor v e = go (ltb v floor) refl e
@@ -88,7 +89,9 @@ no-high (b ∷ w) e = go (leb 128 b) (no-high w) e
     go false ih e = omega (arith, ih e)
 
 header-good : (h : Header) → FineHeader h → GoodHeader h
-header-good h x = record { format = is-one (h .format) (x .front .judged); edition = is-one (h .edition) (x .behind .front .judged); cut = x .behind .behind .small }
+header-good h x =
+    let f = is-known 1 (h .format) (x .front .judged) in
+    record { format = omega (arith, f .0, f .1); edition = is-known lastEdition (h .edition) (x .behind .front .judged); cut = x .behind .behind .small }
 
 record-good : (floor : ℕ) (r : Record) → FineRecord floor r → GoodRecord floor r
 record-good floor r x = record {

@@ -11,8 +11,8 @@ use lib.ListN.{length, take, drop, getD, length-append, length-take, List·getD-
 use lib.Seq.{sets, sets-eq, take-at, length-take-le, getD-take, length-sets}
 use Rattle.number.specs.Septets.{Bytes}
 use Rattle.encoder.specs.declared.Choice.the-variants.{Primary, Alternate}
-use Rattle.encoder.specs.Chosen.{codeOf}
 use Rattle.encoder.specs.Numbers.{wordLimit}
+use Rattle.encoder.specs.Editions.{editionOf}
 use Rattle.fields.specs.Got.{Got, good, bad, writeAll}
 use Rattle.fields.proofs.Field.{none-in}
 use Rattle.fields.proofs.All as all
@@ -26,7 +26,7 @@ use Rattle.writer.specs.declared.Ended.{Ended}
 use Rattle.writer.specs.declared.Ended.the-variants as ended
 use Rattle.writer.specs.declared.Made.{Made}
 use Rattle.writer.specs.declared.Made.the-variants.{Length, Fault}
-use Rattle.writer.specs.Made.{limitOf, cutFault, placed, left, Placed, newHeader, keyed, newFault}
+use Rattle.writer.specs.Made.{limitOf, cutFault, placed, left, Placed, newHeader, codeUnder, keyed, newFault}
 use Rattle.writer.specs.Ended.{readIn, endOf, endedIn, GoodEnd, placedAt, behind, Appended, addedBy, leftBy, Added, lengthOf}
 use Rattle.writer.proofs.Placed.{Laid, was-laid, Sound, sound}
 use Rattle.writer.proofs.Named.{code-fits}
@@ -59,17 +59,18 @@ grows l bs b n r e x =
     ∙ ap (good (record { header = b .header; records = b .records ++ r ∷ [] })) (sym (ap length w) ∙ length-append l (recordBytes r))
 
 -- a new record without fault is fine
-pub fine-keyed : (cut floor station : ℕ) (name : List ℕ) → Sound floor station name → FineRecord floor (keyed cut station name)
+pub fine-keyed : (h : Header) (floor station : ℕ) (name : List ℕ) → Sound floor station name → FineRecord floor (keyed h station name)
 unfolding keyed
-fine-keyed cut floor station name x =
-    let l = limitOf cut in
+fine-keyed h floor station name x =
+    let ed = editionOf (h .edition) in
+    let l = limitOf (h .cut) in
     record {
       front = record { small = x .small; judged = rw (le-ltb station floor (x .rises)) };
       behind = record {
         front = record { long = record { small = omega (arith, x .short); judged = rw (le-ltb wordLimit (length name) (x .short)) }; clean = clean name (x .ascii) };
         behind = record {
-          front = record { long = record { small = omega (arith, code-fits l Primary name (x .short)); judged = refl }; clean = none-in (codeOf l Primary name) };
-          behind = record { long = record { small = omega (arith, code-fits l Alternate name (x .short)); judged = refl }; clean = none-in (codeOf l Alternate name) };
+          front = record { long = record { small = omega (arith, code-fits ed l Primary name (x .short)); judged = refl }; clean = none-in (codeUnder h Primary name) };
+          behind = record { long = record { small = omega (arith, code-fits ed l Alternate name (x .short)); judged = refl }; clean = none-in (codeUnder h Alternate name) };
         };
       };
     }
@@ -111,10 +112,10 @@ start-reads cut room m room′ x =
 
 -- a record laid down behind a book that reads
 laid-behind : (room : List ℕ) → Bytes room → (len station : ℕ) (name : List ℕ) (b : Book) (n : ℕ) → readIn room len ≡ good b n
-    → (m : ℕ) (room′ : List ℕ) → Placed (newFault (floorOf 0 (b .records)) station name) room len (recordBytes (keyed (b .header .cut) station name)) (Length m) room′
-    → readBook (take m room′) ≡ good (record { header = b .header; records = b .records ++ keyed (b .header .cut) station name ∷ [] }) m
+    → (m : ℕ) (room′ : List ℕ) → Placed (newFault (floorOf 0 (b .records)) station name) room len (recordBytes (keyed (b .header) station name)) (Length m) room′
+    → readBook (take m room′) ≡ good (record { header = b .header; records = b .records ++ keyed (b .header) station name ∷ [] }) m
 laid-behind room bs len station name b n e m room′ p =
-    let r : Record = keyed (b .header .cut) station name in
+    let r : Record = keyed (b .header) station name in
     let w : List ℕ = recordBytes r in
     let floor : ℕ = floorOf 0 (b .records) in
     let x = lies room len b n e in
@@ -122,12 +123,12 @@ laid-behind room bs len station name b n e m room′ p =
     let c : take m room′ ≡ take len room ++ w =
     rw (sym (y .long)) (ap (take (len + length w)) (p .leaves ∙ ap (λ (j : Made). left j room len w) (sym (p .answer))) ∙ front-of-laid room len w (y .fits)) in
     let k : length (take len room) + length w ≡ m = omega (arith, y .long, length-take-le len room (x .fits)) in
-    ap readBook c ∙ grows (take len room) (bytes-take len room bs) b n r (x .reads) (fine-keyed (b .header .cut) floor station name (sound floor station name (y .none)))
+    ap readBook c ∙ grows (take len room) (bytes-take len room bs) b n r (x .reads) (fine-keyed (b .header) floor station name (sound floor station name (y .none)))
     ∙ ap (good (record { header = b .header; records = b .records ++ r ∷ [] })) k
 
 -- the book with one record more
 abbrev pub longer : Book → ℕ → List ℕ → Book
-longer b station name = record { header = b .header; records = b .records ++ keyed (b .header .cut) station name ∷ [] }
+longer b station name = record { header = b .header; records = b .records ++ keyed (b .header) station name ∷ [] }
 
 pub record Grown (room : List ℕ) (len station : ℕ) (name : List ℕ) (m : ℕ) (room′ : List ℕ) : Type 0 where
   pub book : Book
@@ -166,14 +167,14 @@ module _ (room : List ℕ) (bs : Bytes room) (station : ℕ) (name : List ℕ) w
   on-from : (len : ℕ) (b : Book) (n : ℕ) → readIn room len ≡ good b n → (e′ : End) (room′ : List ℕ) → Appended room (endOf b len) station name (ended.At e′) room′ → GoodEnd room′ e′ (longer b station name)
   unfolding keyed
   on-from len b n e e′ room′ x =
-      let w : List ℕ = recordBytes (keyed (b .header .cut) station name) in
+      let w : List ℕ = recordBytes (keyed (b .header) station name) in
       let on = placed-on room (endOf b len) station name (no-end-fault room len b n e) in
       let y : NextEnd (endOf b len) station (placedAt room (endOf b len) station name) e′ = next-end (endOf b len) station (placedAt room (endOf b len) station name) e′ (sym (x .answer)) in
       let p : placed (newFault (floorOf 0 (b .records)) station name) (length room) len w ≡ Length (e′ .len) = sym on ∙ y .laid in
       let k : Laid (newFault (floorOf 0 (b .records)) station name) (length room) len w (e′ .len) = was-laid _ (length room) len w (e′ .len) p in
       let d : room′ ≡ left (Length (e′ .len)) room len w = x .leaves ∙ ap (λ (j : Made). left j room len w) (y .laid) in
       let h : e′ .len ≤ length room′ = omega (arith, k .long, k .fits, ap length d, length-sets room len w) in
-      let f : floorOf 0 (b .records ++ keyed (b .header .cut) station name ∷ []) ≡ station + 1 = floor-more 0 (b .records) (keyed (b .header .cut) station name) in
+      let f : floorOf 0 (b .records ++ keyed (b .header) station name ∷ []) ≡ station + 1 = floor-more 0 (b .records) (keyed (b .header) station name) in
       record {
         n = e′ .len;
         reads = read-all room′ (e′ .len) _ h (laid-behind room bs len station name b n e (e′ .len) room′ (record { answer = sym p; leaves = d ∙ ap (λ (j : Made). left j room len w) (sym p) }));

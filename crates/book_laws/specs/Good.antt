@@ -5,12 +5,13 @@ use mathlib.Core.List.{List, [], _∷_}
 use lib.ListN.{length}
 use Rattle.encoder.specs.Numbers.{wordLimit}
 use Rattle.encoder.specs.Trim.{firstHigh}
+use Rattle.encoder.specs.Editions.{lastEdition}
 use Rattle.book.specs.declared.Header.{Header}
 use Rattle.book.specs.Book.{Record, above}
 
 pub record GoodHeader (h : Header) : Type 0 where
   pub format : h .format ≡ 1
-  pub edition : h .edition ≡ 1
+  pub edition : (1 ≤ h .edition) × (h .edition ≤ lastEdition)
   pub cut : h .cut < 2 ^ 28
 
 -- a record whose station is at least `floor`, with a name that the encoder takes and any codes

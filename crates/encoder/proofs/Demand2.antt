@@ -5,6 +5,7 @@ use mathlib.Core.List.{List}
 use native.Mathlib.Omega.{arith}
 use borrow.Author.Tests.{le-ltb}
 use lib.ListN.{length}
+use Rattle.rules.specs.declared.Edition.{Edition}
 use Rattle.encoder.specs.declared.Limit.{Limit}
 use Rattle.encoder.specs.declared.Answer.{Answer}
 use Rattle.encoder.specs.Trim.{trimmed, firstHigh}
@@ -17,13 +18,13 @@ pub taken-by : (w : List ℕ) → length w ≤ wordLimit → length w ≤ firstH
 taken-by w f h = record { fits = f; ascii = λ k l. first-high w .before k (omega arith) }
 
 -- where no refusal is given the word is accepted
-pub accepted : {l : Limit} {w p a : List ℕ} {r : Answer} {p′ a′ : List ℕ} → Encoded l w p a r p′ a′ → numberOf r ≡ 0 → Accepted l w p a
+pub accepted : {ed : Edition} {l : Limit} {w p a : List ℕ} {r : Answer} {p′ a′ : List ℕ} → Encoded ed l w p a r p′ a′ → numberOf r ≡ 0 → Accepted l w p a
 accepted {w = w} e h =
     let g = e .given .accepted .0 h in
     record { taken = taken-by w (g .0) (g .1); primary = g .2; alternate = g .3 }
 
-module _ {l : Limit} {w p a : List ℕ} (x : Accepted l w p a) where
-  answer-coded : answerOf l w (length p) (length a) ≡ codedOf l (trimmed w)
+module _ (ed : Edition) {l : Limit} {w p a : List ℕ} (x : Accepted l w p a) where
+  answer-coded : answerOf ed l w (length p) (length a) ≡ codedOf ed l (trimmed w)
   answer-coded =
       rw (
         le-ltb wordLimit (length w) (x .taken .fits),
@@ -32,7 +33,7 @@ module _ {l : Limit} {w p a : List ℕ} (x : Accepted l w p a) where
         le-ltb (length a) (needOf l (length (trimmed w))) (x .alternate),
       )
 
-  pub walked : {r : Answer} {p′ a′ : List ℕ} → Encoded l w p a r p′ a′ → Walked l w p a r p′ a′
+  pub walked : {r : Answer} {p′ a′ : List ℕ} → Encoded ed l w p a r p′ a′ → Walked ed l w p a r p′ a′
   unfolding primaryOf alternateOf
   walked e =
       let q = e .answer ∙ answer-coded in

@@ -1,4 +1,4 @@
--- Demand 3 holds of every trimmed word and limit, and its bound is reached.
+-- Demand 3 holds of every trimmed word and limit under each edition, and its bound is reached.
 use Prim.Native.Nat.{ℕ, zero, suc, _-_, _*_, _≤_}
 use mathlib.Core.Path.{_≡_, refl, ap, _∙_}
 use mathlib.Core.List.{List}
@@ -11,6 +11,7 @@ use Rattle.walk.specs.Fewest.{Fewest}
 use Rattle.walk.proofs.Limit.{fewest, fewest-one}
 use Rattle.walk.proofs.Bound as bound
 use Rattle.walk.proofs.Reach.{length-xz, reached}
+use Rattle.rules.specs.declared.Edition.{Edition}
 use Rattle.encoder.specs.Trim.{keep, trimEnd, trimmed, firstHigh}
 use Rattle.encoder.specs.Encode.{wordLimit, primaryOf, alternateOf, visitsUnder}
 use Rattle.encoder.proofs.Trim.{keep-any}
@@ -18,29 +19,29 @@ use Rattle.encoder.proofs.Codes.{cut-at}
 use Rattle.encoder.specs.declared.Limit.the-variants.{At}
 use Rattle.encoder.specs.Demand3.{Unlimited, Limited, Reaches}
 
-pub unlimited : (t : List ℕ) → Unlimited t
+pub unlimited : (ed : Edition) (t : List ℕ) → Unlimited ed t
 unfolding primaryOf alternateOf
-unlimited t =
+unlimited ed t =
     record {
       primary = refl;
       alternate = refl;
       visits = refl;
-      primary-bound = bound.primary-bound t;
-      alternate-bound = bound.alternate-bound t;
+      primary-bound = bound.primary-bound ed t;
+      alternate-bound = bound.alternate-bound ed t;
     }
 
-pub limited : (n : ℕ) (t : List ℕ) → Limited n t
+pub limited : (ed : Edition) (n : ℕ) (t : List ℕ) → Limited ed n t
 unfolding primaryOf alternateOf
-limited n t =
+limited ed n t =
     record {
-      primary = cut-at t n .primary;
-      alternate = cut-at t n .alternate;
-      visits = fewest (toPrimary (ruleOf t)) (toAlternate (ruleOf t)) n (visitsOf t);
+      primary = cut-at ed t n .primary;
+      alternate = cut-at ed t n .alternate;
+      visits = fewest (toPrimary (ruleOf ed t)) (toAlternate (ruleOf ed t)) n (visitsOf ed t);
     }
 
 -- there is one such number of visits
-pub limited-one : (n k : ℕ) (t : List ℕ) → Fewest (toPrimary (ruleOf t)) (toAlternate (ruleOf t)) (visitsOf t) n k → k ≡ visitsUnder (At n) t
-limited-one n k t f = fewest-one (toPrimary (ruleOf t)) (toAlternate (ruleOf t)) (visitsOf t) n k (visitsUnder (At n) t) f (limited n t .visits)
+pub limited-one : (ed : Edition) (n k : ℕ) (t : List ℕ) → Fewest (toPrimary (ruleOf ed t)) (toAlternate (ruleOf ed t)) (visitsOf ed t) n k → k ≡ visitsUnder ed (At n) t
+limited-one ed n k t f = fewest-one (toPrimary (ruleOf ed t)) (toAlternate (ruleOf ed t)) (visitsOf ed t) n k (visitsUnder ed (At n) t) f (limited ed n t .visits)
 
 -- K, X, Z, X, Z, .. is ASCII, and trimmed
 xz-trimmed : (n : ℕ) → trimEnd (xz n) ≡ xz n
@@ -57,15 +58,15 @@ xz-ascii zero = refl
 xz-ascii (suc zero) = refl
 xz-ascii (suc (suc n)) = ap (λ (k : ℕ). suc (suc k)) (xz-ascii n)
 
-pub reaches : (t : ℕ) → 1 ≤ t → t ≤ wordLimit → (w : List ℕ) × Reaches t w
+pub reaches : (ed : Edition) (t : ℕ) → 1 ≤ t → t ≤ wordLimit → (w : List ℕ) × Reaches ed t w
 unfolding alternateOf
-reaches zero l h = absurd (omega arith)
-reaches (suc n) l h = (
+reaches ed zero l h = absurd (omega arith)
+reaches ed (suc n) l h = (
   kxz n,
   record {
     fits = omega (arith, length-xz n);
     ascii = ap suc (xz-ascii n);
     long = ap length (kxz-trimmed n) ∙ ap suc (length-xz n);
-    reached = rw (kxz-trimmed n) (reached n ∙ ap (λ (k : ℕ). 2 * suc k - 1) (length-xz n));
+    reached = rw (kxz-trimmed n) (reached ed n ∙ ap (λ (k : ℕ). 2 * suc k - 1) (length-xz n));
   },
 )

@@ -7,6 +7,7 @@ use native.Mathlib.Omega.{arith}
 use borrow.Author.Tests.{ltb-true, ltb-false}
 use lib.Dec.{ltb}
 use lib.ListN.{length}
+use Rattle.rules.specs.declared.Edition.{Edition}
 use Rattle.encoder.specs.declared.Limit.{Limit}
 use Rattle.encoder.specs.declared.Answer.the-variants.{Coded, TooLong, NotAscii, PrimaryShort, AlternateShort}
 use Rattle.encoder.specs.Trim.{trimmed, firstHigh}
@@ -28,7 +29,7 @@ module _ (n high p a need x y z : ℕ) where
       let i : n ≤ wordLimit = ltb-false _ _ e in let j : n ≤ high = ltb-false _ _ f in
       let k : need ≤ p = ltb-false _ _ g in let m : need ≤ a = ltb-false _ _ h in omega arith
 
-pub answer-given : (l : Limit) (w : List ℕ) (m n : ℕ) → Given (length w) (firstHigh w) m n (needOf l (length (trimmed w))) (answerOf l w m n)
-answer-given l w m n =
+pub answer-given : (ed : Edition) (l : Limit) (w : List ℕ) (m n : ℕ) → Given (length w) (firstHigh w) m n (needOf l (length (trimmed w))) (answerOf ed l w m n)
+answer-given ed l w m n =
     by-tests (length w) (firstHigh w) m n (needOf l (length (trimmed w))) _ _ _ (ltb wordLimit (length w)) refl
     (ltb (firstHigh w) (length w)) refl (ltb m (needOf l (length (trimmed w)))) refl (ltb n (needOf l (length (trimmed w)))) refl

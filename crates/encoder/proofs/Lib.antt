@@ -7,6 +7,7 @@
 --     Table      `unchanged`: a refusal changes neither buffer
 --     Demand2    `accepted`, `walked`: demand 2
 --     Demand3    `unlimited`, `limited`, `limited-one`, `reaches`: demand 3
+--     Editions   `seven`, `as-encoded`: an edition by its number
 --     Room       with room for any code neither buffer is too short
 --     Part       `chosen-code`: after an accepted call the part handed back is the chosen code
 --     NoChoice   no public function's promise leaves a choice
@@ -18,6 +19,7 @@ pub mod Answers
 pub mod Table
 pub mod Demand2
 pub mod Demand3
+pub mod Editions
 pub mod Room
 pub mod Part
 pub mod NoChoice

@@ -6,6 +6,7 @@ use native.Mathlib.Omega.{arith}
 use borrow.Author.Tests.{le-leb}
 use lib.ListN.{length, drop, length-append}
 use lib.Seq.{take-append-seam}
+use Rattle.rules.specs.declared.Edition.{Edition}
 use Rattle.encoder.specs.declared.Limit.{Limit}
 use Rattle.encoder.specs.declared.Encoder.{Encoder}
 use Rattle.encoder.specs.declared.Choice.{Choice}
@@ -24,16 +25,16 @@ front-filled code buf n e =
     rw (← e, le-leb (length code) (length (filled code buf)) (omega (arith, length-append code (drop (length code) buf))))
     (take-append-seam code (drop (length code) buf))
 
-pub chosen-code : {l : Limit} {w p a p′ a′ : List ℕ} {r : Answer} → Encoded l w p a r p′ a′ → (c : Choice) (np na n : ℕ) → r ≡ Coded np na n
-    → chosenOf c p′ np a′ na ≡ codeOf l c w
+pub chosen-code : {ed : Edition} {l : Limit} {w p a p′ a′ : List ℕ} {r : Answer} → Encoded ed l w p a r p′ a′ → (c : Choice) (np na n : ℕ) → r ≡ Coded np na n
+    → chosenOf c p′ np a′ na ≡ codeOf ed l c w
 unfolding primaryOf alternateOf
-chosen-code {l} {w} {p} {a} {p′} {a′} {r} e c np na n q = go c (walked (accepted e (ap numberOf q)) e)
+chosen-code {ed} {l} {w} {p} {a} {p′} {a′} {r} e c np na n q = go c (walked ed (accepted e (ap numberOf q)) e)
   where
-    go : (c : Choice) → Walked l w p a r p′ a′ → chosenOf c p′ np a′ na ≡ codeOf l c w
-    go Primary x = rw (x .primary) (front-filled (primaryOf l (trimmed w)) p np (ap primaryLength (sym (x .answer) ∙ q)))
-    go Alternate x = rw (x .alternate) (front-filled (alternateOf l (trimmed w)) a na (ap alternateLength (sym (x .answer) ∙ q)))
+    go : (c : Choice) → Walked ed l w p a r p′ a′ → chosenOf c p′ np a′ na ≡ codeOf ed l c w
+    go Primary x = rw (x .primary) (front-filled (primaryOf ed l (trimmed w)) p np (ap primaryLength (sym (x .answer) ∙ q)))
+    go Alternate x = rw (x .alternate) (front-filled (alternateOf ed l (trimmed w)) a na (ap alternateLength (sym (x .answer) ∙ q)))
 
--- and of a call of the encoder x that was made with the limit l
-pub part-is : {x : Encoder} {l : Limit} {w p a p′ a′ part : List ℕ} {r : Answer} → x ≡ encoderOf l → Encoded (x .limit) w p a r p′ a′
-    → (c : Choice) (np na n : ℕ) → r ≡ Coded np na n → part ≡ chosenOf c p′ np a′ na → part ≡ codeOf l c w
-part-is {w = w} made e c np na n q f = f ∙ chosen-code e c np na n q ∙ ap (λ (x : Encoder). codeOf (x .limit) c w) made
+-- and of a call of the encoder x that was made for an edition with the limit l
+pub part-is : {x : Encoder} {ed : Edition} {l : Limit} {w p a p′ a′ part : List ℕ} {r : Answer} → x ≡ encoderOf ed l → Encoded (x .edition) (x .limit) w p a r p′ a′
+    → (c : Choice) (np na n : ℕ) → r ≡ Coded np na n → part ≡ chosenOf c p′ np a′ na → part ≡ codeOf ed l c w
+part-is {w = w} made e c np na n q f = f ∙ chosen-code e c np na n q ∙ ap (λ (x : Encoder). codeOf (x .edition) (x .limit) c w) made

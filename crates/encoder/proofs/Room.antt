@@ -4,6 +4,7 @@ use mathlib.Core.Path.{_≡_}
 use mathlib.Core.List.{List}
 use native.Mathlib.Omega.{arith}
 use lib.ListN.{length}
+use Rattle.rules.specs.declared.Edition.{Edition}
 use Rattle.encoder.specs.declared.Limit.{Limit}
 use Rattle.encoder.specs.declared.Limit.the-variants.{Whole, At}
 use Rattle.encoder.specs.declared.Answer.{Answer}
@@ -15,7 +16,7 @@ pub need-at-most : (l : Limit) (t : ℕ) → needOf l t ≤ 2 * t - 1
 need-at-most Whole t = omega arith
 need-at-most (At n) t = omega arith
 
-module _ {l : Limit} {w p a p′ a′ : List ℕ} {r : Answer} (e : Encoded l w p a r p′ a′) (room : 2 * wordLimit - 1 ≤ length p) (room′ : 2 * wordLimit - 1 ≤ length a) where
+module _ {ed : Edition} {l : Limit} {w p a p′ a′ : List ℕ} {r : Answer} (e : Encoded ed l w p a r p′ a′) (room : 2 * wordLimit - 1 ≤ length p) (room′ : 2 * wordLimit - 1 ≤ length a) where
   pub never-three : numberOf r ≡ 3 → ⊥
   never-three h = let g = e .given .three .0 h in omega (arith, g, need-at-most l (length (trimmed w)), trimmed-length w)
 

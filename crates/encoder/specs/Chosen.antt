@@ -5,6 +5,7 @@ use mathlib.Core.List.{List, []}
 use mathlib.Core.Bool.{cond}
 use lib.Dec.{leb}
 use lib.ListN.{length, take}
+use Rattle.rules.specs.declared.Edition.{Edition}
 use Rattle.encoder.specs.declared.Limit.{Limit}
 use Rattle.encoder.specs.declared.Choice.{Choice}
 use Rattle.encoder.specs.declared.Choice.the-variants.{Primary, Alternate}
@@ -20,7 +21,7 @@ abbrev pub chosenOf : Choice → List ℕ → ℕ → List ℕ → ℕ → List 
 chosenOf Primary p np a na = frontOf np p
 chosenOf Alternate p np a na = frontOf na a
 
--- the chosen code of a word
-abbrev pub codeOf : Limit → Choice → List ℕ → List ℕ
-codeOf l Primary w = primaryOf l (trimmed w)
-codeOf l Alternate w = alternateOf l (trimmed w)
+-- the chosen code of a word, under an edition
+abbrev pub codeOf : Edition → Limit → Choice → List ℕ → List ℕ
+codeOf ed l Primary w = primaryOf ed l (trimmed w)
+codeOf ed l Alternate w = alternateOf ed l (trimmed w)

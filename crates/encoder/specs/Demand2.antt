@@ -1,11 +1,12 @@
 -- Demand 2: "for every ASCII word of at most 1,024 bytes whose buffers aren't refused, both codes are those of the rules", each
 -- "at the front of its buffer; later bytes keep what they held". The rules are those of the definition's walk, every visit of
--- it; proofs/Demand2.antt shows that what `encode` promises is this.
+-- it; proofs/Demand2.antt shows that what `encode` promises is this, under each edition.
 use Prim.Native.Nat.{ℕ, _≤_, _<_}
 use mathlib.Core.Path.{_≡_}
 use mathlib.Core.List.{List}
 use lib.ListN.{length, getD}
 use Rattle.walk.specs.Walk.{filled}
+use Rattle.rules.specs.declared.Edition.{Edition}
 use Rattle.encoder.specs.declared.Limit.{Limit}
 use Rattle.encoder.specs.declared.Answer.{Answer}
 use Rattle.encoder.specs.declared.Answer.the-variants.{Coded}
@@ -24,7 +25,7 @@ pub record Accepted (l : Limit) (w p a : List ℕ) : Type 0 where
   pub alternate : needOf l (length (trimmed w)) ≤ length a
 
 -- what they get
-pub record Walked (l : Limit) (w p a : List ℕ) (r : Answer) (p′ a′ : List ℕ) : Type 0 where
-  pub answer : r ≡ Coded (length (walkOf l (trimmed w) .primary)) (length (walkOf l (trimmed w) .alternate)) (walkOf l (trimmed w) .visits)
-  pub primary : p′ ≡ filled (walkOf l (trimmed w) .primary) p
-  pub alternate : a′ ≡ filled (walkOf l (trimmed w) .alternate) a
+pub record Walked (ed : Edition) (l : Limit) (w p a : List ℕ) (r : Answer) (p′ a′ : List ℕ) : Type 0 where
+  pub answer : r ≡ Coded (length (walkOf ed l (trimmed w) .primary)) (length (walkOf ed l (trimmed w) .alternate)) (walkOf ed l (trimmed w) .visits)
+  pub primary : p′ ≡ filled (walkOf ed l (trimmed w) .primary) p
+  pub alternate : a′ ≡ filled (walkOf ed l (trimmed w) .alternate) a

@@ -2,6 +2,7 @@
 --     Trim      what is asked of a word before its walk: ASCII, and its trimmed part
 --     Numbers   document 01's numbers and values for each case of an answer
 --     Encode    what `encode` promises: the answer and both buffers, for every input
+--     Editions  what `encode_in` promises: an edition by its number
 --     Chosen    the chosen code as a part of its buffer
 --     Table     document 01's table: each number exactly when
 --     Demand2   what an accepted word gets
@@ -9,6 +10,7 @@
 pub mod Trim
 pub mod Numbers
 pub mod Encode
+pub mod Editions
 pub mod Chosen
 pub mod Table
 pub mod Demand2

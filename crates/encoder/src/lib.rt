@@ -1,13 +1,18 @@
 // The encoder: refuses what it must, trims the word, and lends the inner part and both buffers to the walk.
+use rules::Edition;
 ghost use mathlib.Core.Path.{_≡_};
 ghost use Prim.Native.Nat.{_≤_};
 ghost use lib.ListN.{length, take, drop};
 ghost use Rattle.encoder.specs.Trim.{blank, trimStart, trimEnd, isAscii, firstHigh};
 ghost use Rattle.encoder.specs.Encode.{wordLimit, encoderOf, defaultLimit, needOf, capOf, Encoded};
+ghost use Rattle.encoder.specs.Editions.{editionOf, EncodedIn};
 ghost use Rattle.encoder.specs.Chosen.{frontOf, chosenOf};
 
 // The longest word that is taken, before trimming.
 pub const WORD_LIMIT: usize = 1024;
+
+// The editions that are known are those from 1 up to this.
+pub const EDITIONS: u64 = 2;
 
 // How many bytes a code may have.
 pub enum Limit {
@@ -28,6 +33,12 @@ pub enum Answer {
     AlternateShort,
 }
 
+// What a call that names its edition by a number gets: 7, or the answer under that edition.
+pub enum Reply {
+    Answered(Answer),
+    UnknownEdition,
+}
+
 pub enum Choice {
     Primary,
     Alternate,
@@ -35,6 +46,7 @@ pub enum Choice {
 
 pub struct Encoder {
     pub limit: Limit,
+    pub edition: Edition,
 }
 
 // Bytes 9 to 13 and 32.
@@ -133,25 +145,31 @@ fn cap_of(limit: Limit, t: usize) -> usize
 impl Encoder {
     pub const DEFAULT_LIMIT: usize = 4;
 
-    pub fn new(limit: Limit) -> Self
-        ensures { λ r. ⌜ r ≡ encoderOf limit ⌝ }
+    pub fn in_edition(edition: Edition, limit: Limit) -> Self
+        ensures { λ r. ⌜ r ≡ encoderOf edition limit ⌝ }
     {
-        Self { limit: limit }
+        Self { limit, edition }
+    }
+
+    // Edition 1, as the Rust.
+    pub fn new(limit: Limit) -> Self
+        ensures { λ r. ⌜ r ≡ encoderOf Edition.E1 limit ⌝ }
+    {
+        Self::in_edition(Edition::E1, limit)
     }
 
     pub fn default() -> Self
-        ensures { λ r. ⌜ r ≡ encoderOf (Limit.At defaultLimit) ⌝ }
+        ensures { λ r. ⌜ r ≡ encoderOf Edition.E1 (Limit.At defaultLimit) ⌝ }
     {
-        Self {
-            limit: Limit::At(Encoder::DEFAULT_LIMIT),
-        }
+        Self::in_edition(Edition::E1, Limit::At(Encoder::DEFAULT_LIMIT))
     }
 
     // The checks run in document 01's order, on the word as it is lent; only then is it trimmed and walked.
     pub fn encode(self, word: &[u8], primary: &mut [u8], alternate: &mut [u8]) -> Answer
-        ensures { λ r. ⌜ Encoded (self .limit) (now (word .entry)) (now (primary .entry)) (now (alternate .entry)) r (now (primary .exit)) (now (alternate .exit)) ⌝ }
+        ensures { λ r. ⌜ Encoded (self .edition) (self .limit) (now (word .entry)) (now (primary .entry)) (now (alternate .entry)) r (now (primary .exit)) (now (alternate .exit)) ⌝ }
     {
         let limit = self.limit;
+        let edition = self.edition;
         if WORD_LIMIT < word.len() {
             return Answer::TooLong;
         }
@@ -169,13 +187,41 @@ impl Encoder {
             return Answer::AlternateShort;
         }
         let cap = cap_of(limit, len);
-        let tally = walk::walk(&word[from..end], cap, primary, alternate);
+        let tally = walk::walk(&word[from..end], edition, cap, primary, alternate);
         Answer::Coded {
             primary: tally.primary,
             alternate: tally.alternate,
             visits: tally.visits,
         }
     }
+}
+
+// The edition of a known number.
+pub fn edition_of(number: u64) -> Edition
+    ensures { λ r. ⌜ r ≡ editionOf number ⌝ }
+{
+    if number == 1 {
+        Edition::E1
+    } else {
+        Edition::E2
+    }
+}
+
+// Encodes under the edition of this number. One that is not known is refused before all else.
+pub fn encode_in(
+    edition: u64,
+    limit: Limit,
+    word: &[u8],
+    primary: &mut [u8],
+    alternate: &mut [u8],
+) -> Reply
+    ensures { λ r. ⌜ EncodedIn edition limit (now (word .entry)) (now (primary .entry)) (now (alternate .entry)) r (now (primary .exit)) (now (alternate .exit)) ⌝ }
+{
+    if (edition == 0) | (EDITIONS < edition) {
+        return Reply::UnknownEdition;
+    }
+    let answer = Encoder::in_edition(edition_of(edition), limit).encode(word, primary, alternate);
+    Reply::Answered(answer)
 }
 
 // The first n bytes of a buffer, and none where it has fewer.

@@ -5,6 +5,7 @@ use mathlib.Core.List.{List}
 use mathlib.Core.Bool.{Bool, true, false, cond}
 use lib.Dec.{ltb}
 use lib.ListN.{length}
+use Rattle.rules.specs.declared.Edition.{Edition}
 use Rattle.encoder.specs.declared.Limit.{Limit}
 use Rattle.encoder.specs.declared.Answer.{Answer}
 use Rattle.encoder.specs.declared.Answer.the-variants as said
@@ -34,7 +35,7 @@ by-cases which v false false true q4 at p a n = refl
 by-cases which v false false false true at p a n = refl
 by-cases which v false false false false at p a n = refl
 
-module _ {l : Limit} {w p a p′ a′ : List ℕ} {r : Answer} (e : Encoded l w p a r p′ a′) where
+module _ {ed : Edition} {l : Limit} {w p a p′ a′ : List ℕ} {r : Answer} (e : Encoded ed l w p a r p′ a′) where
   pub told : (which : ℕ) (v : Verdict) (s : Answer) → r ≡ s → verdictBy which v s ≡ unlessRefused which w v
   told which v s q =
       ap (λ (x : Answer). verdictBy which v x) (sym q ∙ e .answer)

@@ -17,6 +17,7 @@ use Rattle.encoder.proofs.High.{no-high}
 use Rattle.encoder.proofs.Demand2.{taken-by}
 use Rattle.equality.specs.declared.Verdict.{Verdict}
 use Rattle.equality.specs.declared.Verdict.the-variants.{Equal, Different, TooLong, NotAscii}
+use Rattle.rules.specs.declared.Edition.the-variants.{E1}
 use Rattle.encoder.specs.Chosen.{codeOf}
 use Rattle.equality.specs.Equality.{wordOf, equalOf, unlessRefused, compared, verdictOf, Answered}
 use Rattle.equality.specs.Table.{Told}
@@ -53,7 +54,7 @@ module _ (l : Limit) (c : Choice) (one two : List ℕ) where
   pub table : Told (length one) (firstHigh one) (length two) (firstHigh two) (verdictOf l c one two)
   table =
       by-tests (length one) (firstHigh one) (length two) (firstHigh two) (ltb wordLimit (length one)) refl (ltb (firstHigh one) (length one)) refl
-      (ltb wordLimit (length two)) refl (ltb (firstHigh two) (length two)) refl (same (codeOf l c one) (codeOf l c two))
+      (ltb wordLimit (length two)) refl (ltb (firstHigh two) (length two)) refl (same (codeOf E1 l c one) (codeOf E1 l c two))
 
   -- so an answer that is the definition's is as `equal` promises
   pub answered : {r : Verdict} → r ≡ verdictOf l c one two → Answered l c one two r
@@ -64,23 +65,23 @@ module _ (l : Limit) (c : Choice) (one two : List ℕ) where
   second-after-first e = let s = table .second e in taken-by one (s .0) (s .1)
 
   -- two words that are taken are compared by their codes
-  both-taken : Taken one → Taken two → verdictOf l c one two ≡ compared (codeOf l c one) (codeOf l c two)
+  both-taken : Taken one → Taken two → verdictOf l c one two ≡ compared (codeOf E1 l c one) (codeOf E1 l c two)
   both-taken x y = taken-passes 1 one _ x ∙ taken-passes 2 two _ y
 
-  same-codes : Taken one → Taken two → codeOf l c one ≡ codeOf l c two → verdictOf l c one two ≡ Equal
-  same-codes x y e = both-taken x y ∙ rw (e, same-refl (codeOf l c two))
+  same-codes : Taken one → Taken two → codeOf E1 l c one ≡ codeOf E1 l c two → verdictOf l c one two ≡ Equal
+  same-codes x y e = both-taken x y ∙ rw (e, same-refl (codeOf E1 l c two))
 
   -- equal exactly when both are taken and have one code
-  pub equal-exactly : (equalOf (verdictOf l c one two) ≡ 1) ↔ (Taken one × Taken two × (codeOf l c one ≡ codeOf l c two))
+  pub equal-exactly : (equalOf (verdictOf l c one two) ≡ 1) ↔ (Taken one × Taken two × (codeOf E1 l c one ≡ codeOf E1 l c two))
   equal-exactly = (forth, λ (x, y, e). ap equalOf (same-codes x y e))
     where
-      forth : equalOf (verdictOf l c one two) ≡ 1 → Taken one × Taken two × (codeOf l c one ≡ codeOf l c two)
+      forth : equalOf (verdictOf l c one two) ≡ 1 → Taken one × Taken two × (codeOf E1 l c one ≡ codeOf E1 l c two)
       forth e =
           let t = table .compared .0 (table .equal e) in
           let x : Taken one = taken-by one (t .0) (t .1) in
           let y : Taken two = taken-by two (t .2) (t .3) in
-          (x, y, compared-equal (codeOf l c one) (codeOf l c two) _ refl (sym (ap equalOf (both-taken x y)) ∙ e))
+          (x, y, compared-equal (codeOf E1 l c one) (codeOf E1 l c two) _ refl (sym (ap equalOf (both-taken x y)) ∙ e))
 
   -- two empty codes are equal
-  pub two-empty : Taken one → Taken two → codeOf l c one ≡ [] → codeOf l c two ≡ [] → verdictOf l c one two ≡ Equal
+  pub two-empty : Taken one → Taken two → codeOf E1 l c one ≡ [] → codeOf E1 l c two ≡ [] → verdictOf l c one two ≡ Equal
   two-empty x y e f = same-codes x y (cc)

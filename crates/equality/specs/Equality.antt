@@ -8,6 +8,7 @@ use mathlib.Core.Bool.{cond}
 use lib.Dec.{ltb}
 use lib.ListN.{length}
 use Rattle.windows.specs.Text.{same}
+use Rattle.rules.specs.declared.Edition.the-variants.{E1}
 use Rattle.encoder.specs.declared.Limit.{Limit}
 use Rattle.encoder.specs.Trim.{firstHigh}
 use Rattle.encoder.specs.Encode.{wordLimit}
@@ -25,9 +26,9 @@ unlessRefused which w v = cond (ltb wordLimit (length w)) (TooLong which) (cond 
 abbrev pub compared : List ℕ → List ℕ → Verdict
 compared x y = cond (same x y) Equal Different
 
--- the answer: the first word is checked wholly before the second
+-- the answer, which is edition 1's: the first word is checked wholly before the second
 abbrev pub verdictOf : Limit → Choice → List ℕ → List ℕ → Verdict
-verdictOf l c one two = unlessRefused 1 one (unlessRefused 2 two (compared (codeOf l c one) (codeOf l c two)))
+verdictOf l c one two = unlessRefused 1 one (unlessRefused 2 two (compared (codeOf E1 l c one) (codeOf E1 l c two)))
 
 -- what `equal` promises of its answer r: when each number is given, and the answer itself
 pub record Answered (l : Limit) (c : Choice) (one two : List ℕ) (r : Verdict) : Type 0 where

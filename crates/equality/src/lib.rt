@@ -6,6 +6,7 @@ use encoder::Limit;
 use encoder::WORD_LIMIT;
 use encoder::chosen;
 ghost use mathlib.Core.Path.{_≡_};
+ghost use Rattle.rules.specs.declared.Edition.the-variants.{E1};
 ghost use Rattle.encoder.specs.Chosen.{codeOf};
 ghost use Rattle.windows.specs.Text.{same};
 ghost use Rattle.equality.specs.Equality.{compared, unlessRefused, Answered};
@@ -40,7 +41,7 @@ pub fn same_bytes(x: &[u8], y: &[u8]) -> bool
 
 // The second word against the first one's code. CODE_ROOM is enough, so no buffer is found too short.
 fn against(limit: Limit, choice: Choice, code: &[u8], two: &[u8]) -> Verdict
-    ensures { λ r. ⌜ r ≡ unlessRefused 2 (now (two .entry)) (compared (now (code .entry)) (codeOf limit choice (now (two .entry)))) ⌝ }
+    ensures { λ r. ⌜ r ≡ unlessRefused 2 (now (two .entry)) (compared (now (code .entry)) (codeOf E1 limit choice (now (two .entry)))) ⌝ }
 {
     let mut p = [0u8; CODE_ROOM];
     let mut a = [0u8; CODE_ROOM];

@@ -1,20 +1,21 @@
 // One visit: a match on the visited byte, whose promise is the definition's visit.
 use rules::Add;
+use rules::Edition;
 use rules::Visit;
 ghost use mathlib.Core.Path.{_≡_};
 ghost use mathlib.Core.Bool.{cond};
 ghost use Prim.Native.Nat.{_+_};
 ghost use Rattle.windows.specs.Text.{upper};
 ghost use Rattle.windows.specs.Window.{byteAt};
-ghost use Rattle.rules.specs.Cond.{marked, plain};
+ghost use Rattle.rules.specs.Cond.{mode, plain};
 ghost use Rattle.rules.specs.Case.{answer, first};
 ghost use Rattle.rules.specs.Plain.{casesVowel};
 ghost use Rattle.rules.specs.Table.{visit};
 ghost use Rattle.rules.specs.declared.Add.the-variants.{One};
 
 // What the byte at `at` adds to the codes and passes over; where no byte stands, nothing.
-pub fn visit_at(w: &[u8], at: usize, slavo: bool) -> Visit
-    ensures { λ r. ⌜ r ≡ visit (upper (now (w .entry))) at (marked slavo) ⌝ }
+pub fn visit_at(w: &[u8], at: usize, slavo: bool, edition: Edition) -> Visit
+    ensures { λ r. ⌜ r ≡ visit (upper (now (w .entry))) at (mode slavo edition) ⌝ }
 {
     if w.len() <= at {
         return Visit::both(Add::Nothing, 0);
@@ -23,7 +24,7 @@ pub fn visit_at(w: &[u8], at: usize, slavo: bool) -> Visit
         b'A' | b'a' | b'E' | b'e' | b'I' | b'i' | b'O' | b'o' | b'U' | b'u' | b'Y' | b'y' =>
             handle_vowel(w, at),
         b'B' | b'b' => handle_plain(w, at, b'B', b'P'),
-        b'C' | b'c' => letters_c::handle_c(w, at),
+        b'C' | b'c' => letters_c::handle_c(w, at, edition),
         b'D' | b'd' => letters_d_l::d::handle_d(w, at),
         b'F' | b'f' => handle_plain(w, at, b'F', b'F'),
         b'G' | b'g' => letters_g::handle_g(w, at, slavo),

@@ -5,6 +5,7 @@ use mathlib.Core.List.{List, [], _∷_, _++_}
 use native.Mathlib.Omega.{arith}
 use borrow.Author.Tests.{lt-ltb, le-ltb}
 use lib.ListN.{length}
+use Rattle.rules.specs.declared.Edition.the-variants.{E1}
 use Rattle.encoder.specs.declared.Encoder.{Encoder}
 use Rattle.encoder.specs.declared.Limit.the-variants.{At}
 use Rattle.encoder.specs.declared.Answer.{Answer}
@@ -17,22 +18,22 @@ use Rattle.encoder.proofs.Codes.{primary-fits, alternate-fits}
 use Rattle.encoder.proofs.Demand2.{accepted, walked}
 use Rattle.lines.specs.Lines.{lineBy, lineOf}
 
--- the two codes of a word under the default limit
+-- the two codes of a word under edition 1 and the default limit
 abbrev pub primary : List ℕ → List ℕ
-primary w = primaryOf (At defaultLimit) (trimmed w)
+primary w = primaryOf E1 (At defaultLimit) (trimmed w)
 
 abbrev pub alternate : List ℕ → List ℕ
-alternate w = alternateOf (At defaultLimit) (trimmed w)
+alternate w = alternateOf E1 (At defaultLimit) (trimmed w)
 
 pub primary-short : (w : List ℕ) → length (primary w) ≤ defaultLimit
-primary-short w = omega (arith, primary-fits (trimmed w) (At defaultLimit))
+primary-short w = omega (arith, primary-fits E1 (trimmed w) (At defaultLimit))
 
 pub alternate-short : (w : List ℕ) → length (alternate w) ≤ defaultLimit
-alternate-short w = omega (arith, alternate-fits (trimmed w) (At defaultLimit))
+alternate-short w = omega (arith, alternate-fits E1 (trimmed w) (At defaultLimit))
 
 -- more room than the limit changes no answer
 enough : (w : List ℕ) (m n : ℕ) → defaultLimit ≤ m → defaultLimit ≤ n
-    → answerOf (At defaultLimit) w m n ≡ answerOf (At defaultLimit) w defaultLimit defaultLimit
+    → answerOf E1 (At defaultLimit) w m n ≡ answerOf E1 (At defaultLimit) w defaultLimit defaultLimit
 enough w m n h k =
     let need : ℕ = needOf (At defaultLimit) (length (trimmed w)) in
     rw (le-ltb m need (omega arith), le-ltb n need (omega arith), le-ltb defaultLimit need (omega arith))
@@ -58,9 +59,9 @@ taken-line w t =
       le-ltb defaultLimit need (omega arith),
     )
 
-module _ {x : Encoder} {w p a p′ a′ : List ℕ} {r : Answer} (made : x ≡ encoderOf (At defaultLimit)) (e : Encoded (x .limit) w p a r p′ a′) where
-  by-default : Encoded (At defaultLimit) w p a r p′ a′
-  by-default = subst (λ (y : Encoder). Encoded (y .limit) w p a r p′ a′) made e
+module _ {x : Encoder} {w p a p′ a′ : List ℕ} {r : Answer} (made : x ≡ encoderOf E1 (At defaultLimit)) (e : Encoded (x .edition) (x .limit) w p a r p′ a′) where
+  by-default : Encoded E1 (At defaultLimit) w p a r p′ a′
+  by-default = subst (λ (y : Encoder). Encoded (y .edition) (y .limit) w p a r p′ a′) made e
 
   -- the line by the answer's number
   pub line-by : defaultLimit ≤ length p → defaultLimit ≤ length a → (s : Answer) → r ≡ s → lineOf w ≡ lineBy (numberOf s) (primary w) (alternate w)
@@ -73,5 +74,5 @@ module _ {x : Encoder} {w p a p′ a′ : List ℕ} {r : Answer} (made : x ≡ e
       → (np ≡ length (primary w)) × (na ≡ length (alternate w)) × (p′ ≡ filled (primary w) p) × (a′ ≡ filled (alternate w) a)
   unfolding primaryOf alternateOf
   coded np na n q =
-      let x : Walked (At defaultLimit) w p a r p′ a′ = walked (accepted by-default (ap numberOf q)) by-default in
+      let x : Walked E1 (At defaultLimit) w p a r p′ a′ = walked E1 (accepted by-default (ap numberOf q)) by-default in
       (ap primaryLength (sym q ∙ x .answer), ap alternateLength (sym q ∙ x .answer), x .primary, x .alternate)

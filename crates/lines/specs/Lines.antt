@@ -6,6 +6,7 @@ use mathlib.Core.Path.{_≡_}
 use mathlib.Core.List.{List, [], _∷_, _++_}
 use mathlib.Core.Bool.{Bool, false, cond, _||_}
 use lib.Dec.{eqb}
+use Rattle.rules.specs.declared.Edition.the-variants.{E1}
 use Rattle.encoder.specs.declared.Limit.the-variants.{At}
 use Rattle.encoder.specs.Trim.{trimmed}
 use Rattle.encoder.specs.Encode.{defaultLimit, numberOf, answerOf, primaryOf, alternateOf}
@@ -15,11 +16,11 @@ abbrev pub lineBy : ℕ → List ℕ → List ℕ → List ℕ
 lineBy zero p a = p ++ 9 ∷ (a ++ 10 ∷ [])
 lineBy (suc n) p a = 33 ∷ (48 + suc n) ∷ 10 ∷ []
 
--- the line of a word, under the default limit: buffers of as many bytes are never too short
+-- the line of a word, under edition 1 and the default limit: buffers of as many bytes are never too short
 unfoldable pub lineOf : List ℕ → List ℕ
 lineOf w =
-    lineBy (numberOf (answerOf (At defaultLimit) w defaultLimit defaultLimit)) (primaryOf (At defaultLimit) (trimmed w))
-    (alternateOf (At defaultLimit) (trimmed w))
+    lineBy (numberOf (answerOf E1 (At defaultLimit) w defaultLimit defaultLimit)) (primaryOf E1 (At defaultLimit) (trimmed w))
+    (alternateOf E1 (At defaultLimit) (trimmed w))
 
 -- the lines that end in i, and the line that is begun behind them, where the first begins with p
 unfoldable pub ended : List ℕ → List ℕ → List (List ℕ)

@@ -8,7 +8,7 @@ use mathlib.Core.Path.{_≡_, refl}
 use lib.ListN.{length}
 use Rattle.windows.specs.Text.{bytes, up, upper, same}
 use Rattle.windows.specs.Window.{isAt, sees, byteAt, vowel, vowelAt, endsAfter, isLong}
-use Rattle.rules.specs.Cond.{marked, holds}
+use Rattle.rules.specs.Cond.{marked, edited, holds}
 use Rattle.rules.specs.Case.{adds, first}
 use Rattle.rules.specs.Plain.{swallows, casesVowel, casesRest}
 use Rattle.rules.specs.CasesC.{casesC}
@@ -17,6 +17,7 @@ use Rattle.rules.specs.CasesG.{casesG}
 use Rattle.rules.specs.CasesMZ.{casesM, casesP, casesR, casesT, casesW, casesX, casesZ}
 use Rattle.rules.specs.CasesS.{casesS}
 use Rattle.rules.specs.Table.{Row, rows, casesIn, visit}
+use Rattle.rules.specs.declared.Edition.the-variants.{E2}
 use Rattle.rules.specs.declared.Visit.{Visit}
 
 -- a word, a place in it, the word's Slavo-Germanic mark, and what the visit there adds to each code and passes over
@@ -109,6 +110,23 @@ answered s = adds (s .primary) (s .alternate) (s .over)
 pub as-the-rust : map defined examples ≡ map answered examples
 unfolding defined answered examples visit first holds rows casesIn swallows casesC casesD casesG casesH casesJ casesL casesM casesP casesR casesS casesT casesW casesX casesZ casesVowel casesRest up upper isAt sees byteAt vowel vowelAt endsAfter isLong same
 as-the-rust = refl
+
+-- edition 2: Van and Von before CH, and what is not so before it
+unfoldable pub examples2 : List Seen
+examples2 =
+    seen "Van Chi" 4 false "K" "K" 1
+    ∷ seen "von chi" 4 false "K" "K" 1
+    ∷ seen "VanChi" 3 false "X" "K" 1
+    ∷ seen "Vin Chi" 4 false "X" "K" 1
+    ∷ seen "Ivan Chi" 5 false "X" "K" 1
+    ∷ []
+
+unfoldable pub defined2 : Seen → Visit
+defined2 s = visit (upper (bytes (s .word))) (s .place) (edited E2)
+
+pub as-edition-2 : map defined2 examples2 ≡ map answered examples2
+unfolding defined2 answered examples2 visit first holds rows casesIn swallows casesC casesVowel casesRest up upper isAt sees byteAt vowel vowelAt endsAfter isLong same
+as-edition-2 = refl
 
 -- ---- the cases of the rest, of the vowels, of B, C, D, .. Z
 unfoldable pub sum : List ℕ → ℕ

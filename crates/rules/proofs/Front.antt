@@ -15,7 +15,7 @@ use lib.Seq.{getD-take, getD-drop}
 use Rattle.windows.specs.Text.{bytes, same}
 use Rattle.windows.specs.Window.{isAt, sees, byteAt, vowelAt}
 use Rattle.windows.proofs.Facts.{both, either, same-true, isAt-true}
-use Rattle.rules.specs.Cond.{Spot, ahead, back, front, rear, Cond, Mode, always, window, byte, vowel, place, past, below, left, long, slavo, non, _&_, _or_, at, holds}
+use Rattle.rules.specs.Cond.{Spot, ahead, back, front, rear, Cond, Mode, always, window, byte, vowel, place, past, below, left, long, slavo, edition2, non, _&_, _or_, at, holds}
 use Rattle.rules.specs.Case.{Case, added, gives, first}
 use Rattle.rules.specs.Plain.{swallows, casesVowel, casesRest}
 use Rattle.rules.specs.CasesC.{casesC}
@@ -52,6 +52,7 @@ settled false (below k) = false
 settled b (left k) = false
 settled b (long n) = false
 settled b slavo = false
+settled b edition2 = false
 settled b (non c) = settled (not b) c
 settled true (c & d) = settled true c && settled true d
 settled false (c & d) = settled false c || settled false d
@@ -88,6 +89,7 @@ module _ (u : List ℕ) (m : Mode) where
   settled-holds b (left k) e = absurd (false≢true e)
   settled-holds b (long n) e = absurd (false≢true e)
   settled-holds b slavo e = absurd (false≢true e)
+  settled-holds b edition2 e = absurd (false≢true e)
   settled-holds b (non c) e = not-not b (holds c u 0 m) (settled-holds (not b) c e)
   settled-holds true (c & d) e =
       let h = both (settled true c) (settled true d) e in simp (settled-holds true c (h .0), settled-holds true d (h .1))
@@ -116,6 +118,7 @@ least (below k) = 0
 least (left k) = 0
 least (long n) = 0
 least slavo = 0
+least edition2 = 0
 least (non c) = 0
 least (c & d) = max (least c) (least d)
 least (c or d) = min (least c) (least d)
@@ -154,6 +157,7 @@ module _ (u : List ℕ) (m : Mode) where
   least-long (left k) e = omega arith
   least-long (long n) e = omega arith
   least-long slavo e = omega arith
+  least-long edition2 e = omega arith
   least-long (non c) e = omega arith
   least-long (c & d) e =
       let h = both (holds c u 0 m) (holds d u 0 m) e in omega (arith, least-long c (h .0), least-long d (h .1))
@@ -181,6 +185,7 @@ shows (below j) k f = false
 shows (left j) k f = false
 shows (long n) k f = false
 shows slavo k f = false
+shows edition2 k f = false
 shows (non c) k f = false
 shows (c & d) k f = shows c k f || shows d k f
 shows (c or d) k f = (settled false c || shows c k f) && (settled false d || shows d k f)
@@ -210,6 +215,7 @@ forces c (below k) = false
 forces c (left k) = false
 forces c (long n) = false
 forces c slavo = false
+forces c edition2 = false
 forces c (non d) = false
 forces c (d & e) = forces c d && forces c e
 forces c (d or e) = forces c d || forces c e
@@ -254,6 +260,7 @@ module _ (u : List ℕ) (k : ℕ) (f : ℕ → List ℕ → Bool) where
     shown (left j) a e = absurd (false≢true a)
     shown (long n) a e = absurd (false≢true a)
     shown slavo a e = absurd (false≢true a)
+    shown edition2 a e = absurd (false≢true a)
     shown (non c) a e = absurd (false≢true a)
     shown (c & d) a e =
         let h = both (holds c u 0 m) (holds d u 0 m) e in
@@ -308,6 +315,7 @@ module _ (u : List ℕ) (m : Mode) (c : Cond) (e : holds c u 0 m ≡ true) where
   forced (left k) a = absurd (false≢true a)
   forced (long n) a = absurd (false≢true a)
   forced slavo a = absurd (false≢true a)
+  forced edition2 a = absurd (false≢true a)
   forced (non d) a = absurd (false≢true a)
   forced (d & g) a =
       let h = both (forces c d) (forces c g) a in simp (forced d (h .0), forced g (h .1))

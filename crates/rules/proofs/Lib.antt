@@ -1,5 +1,5 @@
 -- Laws of the letter rules.
---     Mode       what asks nothing of the mode says the same under any
+--     Mode       what asks nothing of the mark or the edition says the same under any
 --     Tree       a tree and its ways answer alike; `said (search says)` closes a rule's return
 --     Row        the cases of a byte, as the arms of a match on it
 --     Next       what the next byte alone settles, and a tree without it

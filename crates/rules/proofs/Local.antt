@@ -14,7 +14,7 @@ use Rattle.windows.specs.Text.{bytes, same}
 use Rattle.windows.specs.Window.{isAt, sees, byteAt, vowel, vowelAt, endsAfter, isLong}
 use Rattle.windows.proofs.Facts.{both, either}
 use Rattle.rules.specs.Agree.{Agree}
-use Rattle.rules.specs.Cond.{Spot, ahead, back, front, rear, Cond, Mode, always, window, byte, vowel as vowelThere, place, past, below, left, long, slavo, non, _&_, _or_, at, holds}
+use Rattle.rules.specs.Cond.{Spot, ahead, back, front, rear, Cond, Mode, always, window, byte, vowel as vowelThere, place, past, below, left, long, slavo, edition2, non, _&_, _or_, at, holds}
 use Rattle.rules.specs.Case.{Case, gives, first}
 use Rattle.rules.specs.Plain.{swallows, casesVowel, casesRest}
 use Rattle.rules.specs.CasesC.{casesC}
@@ -46,6 +46,7 @@ zero? (below k) = false
 zero? (left k) = false
 zero? (long n) = false
 zero? slavo = false
+zero? edition2 = false
 zero? (non always) = false
 zero? (non (window s n ts)) = false
 zero? (non (byte s b)) = false
@@ -56,6 +57,7 @@ zero? (non (below k)) = false
 zero? (non (left k)) = false
 zero? (non (long n)) = false
 zero? (non slavo) = false
+zero? (non edition2) = false
 zero? (non (non c)) = zero? c
 zero? (non (c & d)) = false
 zero? (non (c or d)) = false
@@ -74,6 +76,7 @@ near (below k) = true
 near (left k) = true
 near (long n) = true
 near slavo = true
+near edition2 = true
 near (non c) = near c
 near (c & d) = zero? c || near c && near d
 near (c or d) = near c && near d
@@ -152,6 +155,7 @@ module _ (u v : List ℕ) (p : ℕ) (a : Agree u v p) (h : 0 < p) (m : Mode) whe
   zero-no (left k) e x = absurd (false≢true e)
   zero-no (long n) e x = absurd (false≢true e)
   zero-no slavo e x = absurd (false≢true e)
+  zero-no edition2 e x = absurd (false≢true e)
   zero-no (non always) e x = absurd (false≢true e)
   zero-no (non (window s n ts)) e x = absurd (false≢true e)
   zero-no (non (byte s b)) e x = absurd (false≢true e)
@@ -162,6 +166,7 @@ module _ (u v : List ℕ) (p : ℕ) (a : Agree u v p) (h : 0 < p) (m : Mode) whe
   zero-no (non (left k)) e x = absurd (false≢true e)
   zero-no (non (long n)) e x = absurd (false≢true e)
   zero-no (non slavo) e x = absurd (false≢true e)
+  zero-no (non edition2) e x = absurd (false≢true e)
   zero-no (non (non c)) e x = simp (zero-no c e x)
   zero-no (non (c & d)) e x = absurd (false≢true e)
   zero-no (non (c or d)) e x = absurd (false≢true e)
@@ -182,6 +187,7 @@ module _ (u v : List ℕ) (p : ℕ) (a : Agree u v p) (h : 0 < p) (m : Mode) whe
   holds-same (left k) e = left-same u v (a .long) p k
   holds-same (long n) e = long-same u v (a .long) n
   holds-same slavo e = refl
+  holds-same edition2 e = refl
   holds-same (non c) e = ap not (holds-same c e)
   holds-same (c & d) e =
       either (zero? c) (near c && near d) e _

@@ -15,7 +15,7 @@ use lib.Seq.{ext-getD, getD-take, getD-drop}
 use Rattle.windows.specs.Text.{bytes}
 use Rattle.windows.specs.Window.{isAt, sees, byteAt, endsAfter, stepBack, among}
 use Rattle.windows.proofs.Facts.{no, both, either, neither, isAt-true, isAt-yes, window-length}
-use Rattle.rules.specs.Cond.{Spot, ahead, back, front, rear, Cond, Mode, always, window, byte, vowel, place, past, below, left, long, slavo, non, _&_, _or_, holds}
+use Rattle.rules.specs.Cond.{Spot, ahead, back, front, rear, Cond, Mode, always, window, byte, vowel, place, past, below, left, long, slavo, edition2, non, _&_, _or_, holds}
 use Rattle.rules.specs.Case.{Case, first}
 use Rattle.rules.specs.Tree.{Tree, say, ask, run, ways}
 use Rattle.rules.specs.declared.Visit.{Visit}
@@ -64,6 +64,7 @@ module _ (may : ℕ → Bool) (on? : Bool) where
   settled first? (left (suc k)) b = false
   settled first? (long n) b = false
   settled first? slavo b = false
+  settled first? edition2 b = false
   settled first? (non c) b = settled first? c (not b)
   settled first? (c & d) true = settled first? c true && settled first? d true
   settled first? (c & d) false = settled first? c false || settled first? d false
@@ -169,6 +170,7 @@ module _ (may : ℕ → Bool) (on? : Bool) (u : List ℕ) (p : ℕ) (next : may 
   answered f (left (suc k)) b h e m = absurd (false≢true e)
   answered f (long n) b h e m = absurd (false≢true e)
   answered f slavo b h e m = absurd (false≢true e)
+  answered f edition2 b h e m = absurd (false≢true e)
   answered f (non c) true h e m = simp (answered f c false h e m)
   answered f (non c) false h e m = simp (answered f c true h e m)
   answered f (c & d) true h e m =

@@ -14,12 +14,12 @@ use lib.ListN.{length, getD, List·getD-eq-default}
 use Rattle.windows.specs.Text.{bytes, up, upper}
 use Rattle.windows.specs.Window.{byteAt, among}
 use Rattle.windows.proofs.Facts.{no, both, either, small-letter, getD-upper}
-use Rattle.rules.specs.Cond.{Mode, plain, holds}
+use Rattle.rules.specs.Cond.{Mode, plain, marked, edited, holds}
 use Rattle.rules.specs.Case.{Case, adds, first}
 use Rattle.rules.specs.Plain.{swallows, casesVowel, casesRest}
 use Rattle.rules.specs.Table.{Row, rows, casesIn, visit}
 use Rattle.rules.specs.declared.Visit.{Visit}
-use Rattle.rules.proofs.Mode.{freeCases, free-first}
+use Rattle.rules.proofs.Mode.{asksCases, Same, same-first, told-mark, told-edition, told-none}
 use Rattle.rules.proofs.Tree.{over-one}
 use types.Run.{OneOf}
 
@@ -112,13 +112,20 @@ module _ (w : List ℕ) (p : ℕ) (m : Mode) (v : Visit) where
   visit-by cs e h =
       h ∙ ap (λ (ds : List Case). first ds (upper w) p m) (sym (ap (casesIn rows) (getD-upper w p) ∙ e))
 
-  -- a letter whose rule is told the mark
-  pub arm : (b : ℕ) → x ≡ b → v ≡ first (casesIn rows b) (upper w) p m → v ≡ visit (upper w) p m
-  arm b k h = visit-by (casesIn rows b) (ap (casesIn rows) k) h
+  -- a letter whose rule is told the mode `n`, which has all of `m` that it asks for
+  arm : (i j : Bool) (n : Mode) → Same i j n m → (b : ℕ) → asksCases i j (casesIn rows b) ≡ true → x ≡ b
+      → v ≡ first (casesIn rows b) (upper w) p n → v ≡ visit (upper w) p m
+  arm i j n s b f k h = visit-by (casesIn rows b) (ap (casesIn rows) k) (h ∙ same-first i j (upper w) p n m s (casesIn rows b) f)
 
-  -- one whose rule asks nothing of it
-  pub arm-free : (b : ℕ) → freeCases (casesIn rows b) ≡ true → x ≡ b → v ≡ first (casesIn rows b) (upper w) p plain → v ≡ visit (upper w) p m
-  arm-free b f k h = arm b k (h ∙ free-first (casesIn rows b) f (upper w) p plain m)
+  -- the mark alone, the edition alone, neither
+  pub arm-marked : (b : ℕ) → asksCases true false (casesIn rows b) ≡ true → x ≡ b → v ≡ first (casesIn rows b) (upper w) p (marked (m .mark)) → v ≡ visit (upper w) p m
+  arm-marked b f k h = arm true false (marked (m .mark)) (told-mark m) b f k h
+
+  pub arm-edited : (b : ℕ) → asksCases false true (casesIn rows b) ≡ true → x ≡ b → v ≡ first (casesIn rows b) (upper w) p (edited (m .edition)) → v ≡ visit (upper w) p m
+  arm-edited b f k h = arm false true (edited (m .edition)) (told-edition m) b f k h
+
+  pub arm-free : (b : ℕ) → asksCases false false (casesIn rows b) ≡ true → x ≡ b → v ≡ first (casesIn rows b) (upper w) p plain → v ≡ visit (upper w) p m
+  arm-free b f k h = arm false false plain (told-none plain m) b f k h
 
   -- one of one sound
   pub arm-plain : (l : Char) (s : String) → casesIn rows (code l) ≡ swallows l s → x ≡ code l
@@ -127,7 +134,7 @@ module _ (w : List ℕ) (p : ℕ) (m : Mode) (v : Visit) where
 
   pub arm-vowel : OneOf (cased (bytes "AEIOUY")) (getD w p 0) → v ≡ first casesVowel (upper w) p plain → v ≡ visit (upper w) p m
   unfolding casesVowel up
-  arm-vowel k h = visit-by casesVowel (vowel-row x (all-of (λ (y : ℕ). among (bytes "AEIOUY") (up y)) (cased (bytes "AEIOUY")) (getD w p 0) refl k)) (h ∙ free-first casesVowel refl (upper w) p plain m)
+  arm-vowel k h = visit-by casesVowel (vowel-row x (all-of (λ (y : ℕ). among (bytes "AEIOUY") (up y)) (cased (bytes "AEIOUY")) (getD w p 0) refl k)) (h ∙ same-first false false (upper w) p plain m (told-none plain m) casesVowel refl)
 
   pub arm-rest : None (Unit {0}) rows (getD w p 0) → v ≡ adds "" "" 0 → v ≡ visit (upper w) p m
   unfolding casesRest first holds

@@ -1,7 +1,7 @@
 -- The cases of C, in the order of the Rust's text. A case is one way through its branches: its condition is what the branches
 -- that it takes as yes ask, outermost first, with the tests of the helpers that they call.
 use mathlib.Core.List.{List, [], _∷_}
-use Rattle.rules.specs.Cond.{Cond, always, window, byte, vowel, place, past, below, left, non, _&_, _or_, ahead, back, front}
+use Rattle.rules.specs.Cond.{Cond, always, window, byte, vowel, place, past, below, left, edition2, non, _&_, _or_, ahead, back, front}
 use Rattle.rules.specs.Case.{Case, case}
 
 -- the third test of the place, the second below 2, never matters (`below-idle`, proofs/Idle.antt); it stands as in the Rust
@@ -38,9 +38,10 @@ khBefore =
     (place 0 or window (back 1) 1 ("A" ∷ "O" ∷ "U" ∷ "E" ∷ []))
     & (window (ahead 2) 1 ("L" ∷ "R" ∷ "N" ∷ "M" ∷ "B" ∷ "H" ∷ "F" ∷ "V" ∷ "W" ∷ " " ∷ []) or left 1)
 
--- the first window has four bytes and texts of three, so it never holds, as in the Rust
+-- the Rust's window has four bytes and texts of three, so it never holds, and edition 1 keeps it; edition 2 reads it with texts of
+-- four, as G and T do
 abbrev pub vanOrVon : Cond
-vanOrVon = window (front 0) 4 ("VAN" ∷ "VON" ∷ [])
+vanOrVon = edition2 & window (front 0) 4 ("VAN " ∷ "VON " ∷ []) or non edition2 & window (front 0) 4 ("VAN" ∷ "VON" ∷ [])
 
 abbrev pub conditionCH1 : Cond
 conditionCH1 =

@@ -1,6 +1,6 @@
 -- The conditions of the letter rules, as data, and what they say of a place in a word. A condition is what the Rust's branches
 -- ask with `contains`, `char_at`, `is_vowel`, the index, the length and the Slavo-Germanic mark; `non`, `&`, `or` stand where
--- the Rust has `!`, `&&`, `||`.
+-- the Rust has `!`, `&&`, `||`. One condition is not the Rust's: which edition of the rules is asked for (document 02, L4).
 use Prim.Native.Nat.{ℕ, _+_}
 use Prim.Native.Char.{Char, code}
 use Prim.Native.String.{String}
@@ -9,6 +9,8 @@ use mathlib.Core.List.{List, map}
 use lib.Dec.{eqb, ltb}
 use Rattle.windows.specs.Text.{bytes}
 use Rattle.windows.specs.Window.{sees, byteAt, vowelAt, stepBack, fromRear, endsAfter, isLong}
+use Rattle.rules.specs.declared.Edition.{Edition}
+use Rattle.rules.specs.declared.Edition.the-variants.{E1, E2}
 
 infixl 40 _&_
 infixl 30 _or_
@@ -38,20 +40,33 @@ pub data Cond : Type 0 where
   long : (n : ℕ) → Cond
   -- the word has the Slavo-Germanic mark
   slavo : Cond
+  -- the rules are those of edition 2
+  edition2 : Cond
   non : Cond → Cond
   _&_ : Cond → Cond → Cond
   _or_ : Cond → Cond → Cond
 
--- what a rule is told besides the word and the place: the Slavo-Germanic mark
+-- what a rule is told besides the word and the place: the Slavo-Germanic mark and the edition
 pub record Mode : Type 0 where
   pub mark : Bool
+  pub edition : Edition
 
+abbrev pub mode : Bool → Edition → Mode
+mode b e = record { mark = b; edition = e }
+
+-- for a rule that asks for the mark alone, for the edition alone, and for neither
 abbrev pub marked : Bool → Mode
-marked b = record { mark = b }
+marked b = mode b E1
 
--- for a rule that asks nothing of the mode
+abbrev pub edited : Edition → Mode
+edited e = mode false e
+
 abbrev pub plain : Mode
-plain = marked false
+plain = mode false E1
+
+abbrev pub isTwo : Edition → Bool
+isTwo E1 = false
+isTwo E2 = true
 
 -- the question `f` of a place, asked at a spot; one before the front answers no
 abbrev pub at : Spot → List ℕ → ℕ → (ℕ → Bool) → Bool
@@ -72,6 +87,7 @@ holds (below k) u p m = ltb p k
 holds (left k) u p m = endsAfter u p k
 holds (long n) u p m = isLong u n
 holds slavo u p m = m .mark
+holds edition2 u p m = isTwo (m .edition)
 holds (non c) u p m = not (holds c u p m)
 holds (c & d) u p m = holds c u p m && holds d u p m
 holds (c or d) u p m = holds c u p m || holds d u p m

@@ -3,6 +3,12 @@ ghost use mathlib.Core.Path.{_≡_};
 ghost use mathlib.Core.Bool.{cond};
 ghost use Rattle.rules.specs.Case.{answer};
 
+// The editions of the rules: the first is the Rust's, the second reads one test of C otherwise (specs/CasesC.antt).
+pub enum Edition {
+    E1,
+    E2,
+}
+
 // What a visit adds to one code.
 pub enum Add {
     Nothing,

@@ -6,6 +6,8 @@ use denote.Ref.{now}
 use denote.Triple.Clauses.{AtExit}
 use Rattle.simmerquilt.proofs.simmerquilt_encode.Kinds as encode-kinds
 use Rattle.simmerquilt.proofs.simmerquilt_encode.Reads as encode
+use Rattle.simmerquilt.proofs.simmerquilt_encode_in.Kinds as encode-in-kinds
+use Rattle.simmerquilt.proofs.simmerquilt_encode_in.Reads as encode-in
 use Rattle.simmerquilt.proofs.simmerquilt_equal.Kinds as equal-kinds
 use Rattle.simmerquilt.proofs.simmerquilt_equal.Reads as equal
 use Rattle.simmerquilt.proofs.books.simmerquilt_book_start.Kinds as book-start-kinds
@@ -39,6 +41,18 @@ module _ (κs : Lfts 4) (a : Dens κs encode-kinds.ps) (x y : resT encode-kinds.
 
   pub one-alternate : now (s .1 .1 .0) ≡ now (t .1 .1 .0)
   one-alternate = p .1 .alternate ∙ sym (q .1 .alternate)
+
+-- the edition's number comes first
+module _ (κs : Lfts 4) (a : Dens κs encode-in-kinds.ps) (x y : resT encode-in-kinds.r κs .Denot) (s t : AtExit (endedOf 4 encode-in-kinds.ps encode-in-kinds.r) κs)
+    (p : encode-in.Post κs a x s) (q : encode-in.Post κs a y t) where
+  pub one-numbers-in : now (s .1 .1 .1 .1 .1 .1 .0) ≡ now (t .1 .1 .1 .1 .1 .1 .0)
+  one-numbers-in = p .0 ∙ sym (q .0)
+
+  pub one-primary-in : now (s .1 .1 .0) ≡ now (t .1 .1 .0)
+  one-primary-in = p .1 .primary ∙ sym (q .1 .primary)
+
+  pub one-alternate-in : now (s .1 .1 .1 .0) ≡ now (t .1 .1 .1 .0)
+  one-alternate-in = p .1 .alternate ∙ sym (q .1 .alternate)
 
 module _ (κs : Lfts 3) (a : Dens κs equal-kinds.ps) (x y : resT equal-kinds.r κs .Denot) (s t : AtExit (endedOf 3 equal-kinds.ps equal-kinds.r) κs) where
   pub one-equal : equal.Post κs a x s → equal.Post κs a y t → now (s .1 .1 .1 .1 .1 .0) ≡ now (t .1 .1 .1 .1 .1 .0)

@@ -6,6 +6,7 @@ use Rattle.encoder.specs.declared.Limit.{Limit}
 use Rattle.encoder.specs.declared.Limit.the-variants.{Whole, At}
 use Rattle.encoder.specs.declared.Choice.{Choice}
 use Rattle.encoder.specs.declared.Choice.the-variants.{Primary, Alternate}
+use Rattle.book.specs.declared.Header.{Header}
 use Rattle.book.specs.declared.Cursor.{Cursor}
 use Rattle.writer.specs.declared.End.{End}
 
@@ -20,5 +21,8 @@ choiceOf false = Primary
 abbrev pub cursorOf : ℕ → ℕ → Cursor
 cursorOf place floor = record { at = place; floor = floor }
 
+abbrev pub headerFrom : ℕ → ℕ → ℕ → Header
+headerFrom format edition cut = record { format = format; edition = edition; cut = cut }
+
 abbrev pub endFrom : ℕ → ℕ → ℕ → ℕ → ℕ → End
-endFrom format edition cut len floor = record { header = record { format = format; edition = edition; cut = cut }; len = len; floor = floor }
+endFrom format edition cut len floor = record { header = headerFrom format edition cut; len = len; floor = floor }

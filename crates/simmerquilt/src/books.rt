@@ -10,7 +10,7 @@ ghost use Rattle.book.specs.Told.{openedBy, nextOf, wholeBy};
 ghost use Rattle.writer.specs.Made.{cutOf, cutFault, newHeader, placed, left, keyed};
 ghost use Rattle.writer.specs.Ended.{readIn, addedBy, leftBy, behind, placedAt};
 ghost use Rattle.answers.specs.Numbers.{madeNumbers, openedNumbers, stepNumbers, wholeNumbers, endedNumbers};
-ghost use Rattle.simmerquilt.specs.Face.{limitOf, cursorOf, endFrom};
+ghost use Rattle.simmerquilt.specs.Face.{limitOf, cursorOf, endFrom, headerFrom};
 
 // Starts a book with no records; `out` is number and length.
 #[no_mangle]
@@ -91,7 +91,7 @@ pub extern "C" fn simmerquilt_book_append(
     out: &mut [u64; 3],
 )
     ensures told { λ _. ⌜ now (out .exit) ≡ endedNumbers (behind (endFrom format edition cut «length» floor) station (placedAt (now (room .entry)) (endFrom format edition cut «length» floor) station (now (name .entry)))) ⌝ }
-    ensures room { λ _. ⌜ now (room .exit) ≡ left (placedAt (now (room .entry)) (endFrom format edition cut «length» floor) station (now (name .entry))) (now (room .entry)) «length» (recordBytes (keyed cut station (now (name .entry)))) ⌝ }
+    ensures room { λ _. ⌜ now (room .exit) ≡ left (placedAt (now (room .entry)) (endFrom format edition cut «length» floor) station (now (name .entry))) (now (room .entry)) «length» (recordBytes (keyed (headerFrom format edition cut) station (now (name .entry)))) ⌝ }
 {
     let header = Header {
         format,

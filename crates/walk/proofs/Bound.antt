@@ -8,6 +8,7 @@ use native.Mathlib.Nat.{sub-zero}
 use lib.ListN.{length, length-append}
 use Rattle.windows.specs.Text.{upper}
 use Rattle.windows.proofs.Facts.{length-upper}
+use Rattle.rules.specs.declared.Edition.{Edition}
 use Rattle.rules.specs.declared.Visit.{Visit}
 use Rattle.rules.specs.Kept.{AtFront}
 use Rattle.rules.proofs.Bound.{visit-short}
@@ -42,18 +43,18 @@ module _ (v : ℕ → Visit) (start t : ℕ) (k : Keeps t v) where
   pub any-alternate-bound : length (joined (toAlternate v) (places v start 0 (t - start))) ≤ 2 * t - 1
   any-alternate-bound = bounded v (toAlternate v) (λ p. k .short p .alternate) start t (k .front .alternate)
 
--- the letter rules keep them
-pub rule-keeps : (w : List ℕ) → Keeps (length w) (ruleOf w)
-rule-keeps w =
+-- the letter rules keep them, in each edition
+pub rule-keeps : (ed : Edition) (w : List ℕ) → Keeps (length w) (ruleOf ed w)
+rule-keeps ed w =
     record {
       short = λ p. visit-short (upper w) p _;
-      front = subst (λ (n : ℕ). AtFront n (ruleOf w 0)) (length-upper w) (visit-front (upper w) _);
+      front = subst (λ (n : ℕ). AtFront n (ruleOf ed w 0)) (length-upper w) (visit-front (upper w) _);
     }
 
-pub primary-bound : (w : List ℕ) → length (wholeOf w .primary) ≤ 2 * length w - 1
+pub primary-bound : (ed : Edition) (w : List ℕ) → length (wholeOf ed w .primary) ≤ 2 * length w - 1
 unfolding visitsOf
-primary-bound w = any-primary-bound (ruleOf w) (startOf w) (length w) (rule-keeps w)
+primary-bound ed w = any-primary-bound (ruleOf ed w) (startOf w) (length w) (rule-keeps ed w)
 
-pub alternate-bound : (w : List ℕ) → length (wholeOf w .alternate) ≤ 2 * length w - 1
+pub alternate-bound : (ed : Edition) (w : List ℕ) → length (wholeOf ed w .alternate) ≤ 2 * length w - 1
 unfolding visitsOf
-alternate-bound w = any-alternate-bound (ruleOf w) (startOf w) (length w) (rule-keeps w)
+alternate-bound ed w = any-alternate-bound (ruleOf ed w) (startOf w) (length w) (rule-keeps ed w)

@@ -19,7 +19,7 @@ one-is-slavo-germanic κs a x y s t p q = p ∙ sym q
 pub one-start-of : OneResult start-of-kinds.ps start-of-kinds.r start-of.Post
 one-start-of κs a x y s t p q = p ∙ sym q
 
--- the word, the limit and the two buffers: the buffers at exit are the third and the fourth
+-- the word, the edition, the limit and the two buffers: the buffers at exit are the fourth and the fifth
 module _ (κs : Lfts 3) (a : Dens κs walk-kinds.ps) (x y : resT walk-kinds.r κs .Denot) (s t : AtExit (endedOf 3 walk-kinds.ps walk-kinds.r) κs) where
-  pub one-walk : walk.Post κs a x s → walk.Post κs a y t → (x ≡ y) × ((now (s .1 .1 .0) ≡ now (t .1 .1 .0)) × (now (s .1 .1 .1 .0) ≡ now (t .1 .1 .1 .0)))
+  pub one-walk : walk.Post κs a x s → walk.Post κs a y t → (x ≡ y) × ((now (s .1 .1 .1 .0) ≡ now (t .1 .1 .1 .0)) × (now (s .1 .1 .1 .1 .0) ≡ now (t .1 .1 .1 .1 .0)))
   one-walk p q = (p .0 ∙ sym (q .0), (p .1 .0 ∙ sym (q .1 .0), p .1 .1 ∙ sym (q .1 .1)))

@@ -13,12 +13,13 @@ use lib.Seq.{getD-take, getD-drop}
 use Rattle.windows.specs.Text.{bytes, up, upper, same}
 use Rattle.windows.specs.Window.{isAt, sees, byteAt, stepBack}
 use Rattle.windows.proofs.Facts.{both, no, isAt-true}
-use Rattle.rules.specs.Cond.{marked, holds}
+use Rattle.rules.specs.Cond.{mode, holds}
 use Rattle.rules.specs.Case.{adds, first}
 use Rattle.rules.specs.Plain.{swallows}
 use Rattle.rules.specs.CasesMZ.{casesX, casesZ}
 use Rattle.rules.specs.Table.{rows, casesIn, visit}
 use Rattle.rules.specs.Kept.{bytesOf}
+use Rattle.rules.specs.declared.Edition.{Edition}
 use Rattle.rules.specs.declared.Visit.{Visit}
 use Rattle.walk.specs.Walk.{places, joined, toAlternate}
 use Rattle.walk.specs.Word.{beginsOne, hasOne, slavoGermanic, silentStarts, ruleOf, startOf, visitsOf, wholeOf}
@@ -124,10 +125,10 @@ back-sees-no u p k n j y ts l g d = back-no p k (λ (q : ℕ). sees u q n ts) (�
 
 -- ---- the visits
 -- an X behind place 0 that no U stands before, and no C or X behind, adds KS
-x-visit : (u : List ℕ) (k x y : ℕ) → getD u (suc k) 0 ≡ 88 → getD u (suc (suc k)) 0 ≡ x → differ x 0 (map bytes ("C" ∷ "X" ∷ [])) ≡ true
-    → getD u k 0 ≡ y → eqb y 85 ≡ false → Twofold (visit u (suc k) (marked true))
+x-visit : (ed : Edition) (u : List ℕ) (k x y : ℕ) → getD u (suc k) 0 ≡ 88 → getD u (suc (suc k)) 0 ≡ x → differ x 0 (map bytes ("C" ∷ "X" ∷ [])) ≡ true
+    → getD u k 0 ≡ y → eqb y 85 ≡ false → Twofold (visit u (suc k) (mode true ed))
 unfolding visit first holds rows casesIn casesX
-x-visit u k x y here next d last e =
+x-visit ed u k x y here next d last e =
     let n : sees u (suc k + 1) 1 (map bytes ("C" ∷ "X" ∷ [])) ≡ false =
     sees-no u (suc k + 1) 1 0 x (map bytes ("C" ∷ "X" ∷ [])) (omega arith) (let z : suc k + 1 + 0 ≡ suc (suc k) = omega arith in rw z next) d in
     let three : stepBack (suc k) 3 (λ (q : ℕ). sees u q 3 (map bytes ("IAU" ∷ "EAU" ∷ []))) ≡ false =
@@ -138,10 +139,10 @@ x-visit u k x y here next d last e =
     rw here (simp (p, n, three, two, and-false) (record { over = refl; added = refl }))
 
 -- under the mark a Z behind place 0 that no T stands before, and no H or Z behind, adds TS to the alternate code
-z-visit : (u : List ℕ) (k x : ℕ) → getD u (suc k) 0 ≡ 90 → getD u (suc (suc k)) 0 ≡ x → eqb x 72 ≡ false → eqb x 90 ≡ false
-    → getD u k 0 ≡ 88 → Twofold (visit u (suc k) (marked true))
+z-visit : (ed : Edition) (u : List ℕ) (k x : ℕ) → getD u (suc k) 0 ≡ 90 → getD u (suc (suc k)) 0 ≡ x → eqb x 72 ≡ false → eqb x 90 ≡ false
+    → getD u k 0 ≡ 88 → Twofold (visit u (suc k) (mode true ed))
 unfolding visit first holds rows casesIn casesZ
-z-visit u k x here next h z last =
+z-visit ed u k x here next h z last =
     let s : suc k + 1 ≡ suc (suc k) = omega arith in
     let no-h : byteAt u (suc k + 1) 72 ≡ false = byte-no u (suc k + 1) 72 x (rw s next) h in
     let no-z : byteAt u (suc k + 1) 90 ≡ false = byte-no u (suc k + 1) 90 x (rw s next) z in
@@ -150,9 +151,9 @@ z-visit u k x here next h z last =
     rw here (simp (no-h, no-z, no-t, p, or-true) (record { over = refl; added = refl }))
 
 -- the K at place 0 that no K stands behind adds K
-k-visit : (u : List ℕ) (x : ℕ) → getD u 0 0 ≡ 75 → getD u 1 0 ≡ x → eqb x 75 ≡ false → visit u 0 (marked true) ≡ adds "K" "K" 0
+k-visit : (ed : Edition) (u : List ℕ) (x : ℕ) → getD u 0 0 ≡ 75 → getD u 1 0 ≡ x → eqb x 75 ≡ false → visit u 0 (mode true ed) ≡ adds "K" "K" 0
 unfolding visit first holds rows casesIn swallows
-k-visit u x here next e =
+k-visit ed u x here next e =
     let n : byteAt u (0 + 1) 75 ≡ false = byte-no u (0 + 1) 75 x next e in
     rw here (simp n)
 
@@ -170,30 +171,30 @@ starts : (n : ℕ) → startOf (kxz n) ≡ 0
 unfolding startOf
 starts n = rw (upper-kxz n) (simp (no-silent n (first-xz n)))
 
-k-first : (n : ℕ) → (getD (xz n) 0 0 ≡ 88) ⊎ (getD (xz n) 0 0 ≡ 0) → visit (kxz n) 0 (marked true) ≡ adds "K" "K" 0
-k-first n (inl e) = k-visit (kxz n) 88 refl e refl
-k-first n (inr e) = k-visit (kxz n) 0 refl e refl
+k-first : (ed : Edition) (n : ℕ) → (getD (xz n) 0 0 ≡ 88) ⊎ (getD (xz n) 0 0 ≡ 0) → visit (kxz n) 0 (mode true ed) ≡ adds "K" "K" 0
+k-first ed n (inl e) = k-visit ed (kxz n) 88 refl e refl
+k-first ed n (inr e) = k-visit ed (kxz n) 0 refl e refl
 
-twofold : (n k : ℕ) → XHere n k ⊎ ZHere n k → Twofold (visit (kxz n) (suc k) (marked true))
-twofold n k (inl x) = go (x .next)
+twofold : (ed : Edition) (n k : ℕ) → XHere n k ⊎ ZHere n k → Twofold (visit (kxz n) (suc k) (mode true ed))
+twofold ed n k (inl x) = go (x .next)
   where
-    go : (getD (xz n) (suc k) 0 ≡ 90) ⊎ (getD (xz n) (suc k) 0 ≡ 0) → Twofold (visit (kxz n) (suc k) (marked true))
-    go (inl e) = x-visit (kxz n) k 90 _ (x .here) e refl refl (x .last)
-    go (inr e) = x-visit (kxz n) k 0 _ (x .here) e refl refl (x .last)
-twofold n k (inr z) = go (z .next)
+    go : (getD (xz n) (suc k) 0 ≡ 90) ⊎ (getD (xz n) (suc k) 0 ≡ 0) → Twofold (visit (kxz n) (suc k) (mode true ed))
+    go (inl e) = x-visit ed (kxz n) k 90 _ (x .here) e refl refl (x .last)
+    go (inr e) = x-visit ed (kxz n) k 0 _ (x .here) e refl refl (x .last)
+twofold ed n k (inr z) = go (z .next)
   where
-    go : (getD (xz n) (suc k) 0 ≡ 88) ⊎ (getD (xz n) (suc k) 0 ≡ 0) → Twofold (visit (kxz n) (suc k) (marked true))
-    go (inl e) = z-visit (kxz n) k 88 (z .here) e refl refl (z .last)
-    go (inr e) = z-visit (kxz n) k 0 (z .here) e refl refl (z .last)
+    go : (getD (xz n) (suc k) 0 ≡ 88) ⊎ (getD (xz n) (suc k) 0 ≡ 0) → Twofold (visit (kxz n) (suc k) (mode true ed))
+    go (inl e) = z-visit ed (kxz n) k 88 (z .here) e refl refl (z .last)
+    go (inr e) = z-visit ed (kxz n) k 0 (z .here) e refl refl (z .last)
 
 -- the rule of such a word, which is in capitals and has the mark
-rule-is : (n p : ℕ) → ruleOf (kxz n) p ≡ visit (kxz n) p (marked true)
-rule-is n p = rw (upper-kxz n, marks n)
+rule-is : (ed : Edition) (n p : ℕ) → ruleOf ed (kxz n) p ≡ visit (kxz n) p (mode true ed)
+rule-is ed n p = rw (upper-kxz n, marks n)
 
-behind-k : (n k : ℕ) → 1 ≤ k → k < 1 + length (xz n) → Twofold (ruleOf (kxz n) k)
-behind-k n zero l u = absurd (omega arith)
-behind-k n (suc k) l u = rw (rule-is n (suc k)) (twofold n k (x-or-z n k (omega (arith, length-xz n))))
+behind-k : (ed : Edition) (n k : ℕ) → 1 ≤ k → k < 1 + length (xz n) → Twofold (ruleOf ed (kxz n) k)
+behind-k ed n zero l u = absurd (omega arith)
+behind-k ed n (suc k) l u = rw (rule-is ed n (suc k)) (twofold ed n k (x-or-z n k (omega (arith, length-xz n))))
 
-pub reached : (n : ℕ) → length (wholeOf (kxz n) .alternate) ≡ 2 * length (kxz n) - 1
+pub reached : (ed : Edition) (n : ℕ) → length (wholeOf ed (kxz n) .alternate) ≡ 2 * length (kxz n) - 1
 unfolding visitsOf
-reached n = rw (starts n, sub-zero (length (kxz n))) (from-k (ruleOf (kxz n)) (length (xz n)) (rule-is n 0 ∙ k-first n (first-xz n)) (behind-k n))
+reached ed n = rw (starts n, sub-zero (length (kxz n))) (from-k (ruleOf ed (kxz n)) (length (xz n)) (rule-is ed n 0 ∙ k-first ed n (first-xz n)) (behind-k ed n))

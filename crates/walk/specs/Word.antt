@@ -6,8 +6,9 @@ use mathlib.Core.Bool.{Bool, false, cond, _||_}
 use lib.ListN.{length}
 use Rattle.windows.specs.Text.{bytes, upper}
 use Rattle.windows.specs.Window.{isAt, sees}
-use Rattle.rules.specs.Cond.{marked}
+use Rattle.rules.specs.Cond.{mode}
 use Rattle.rules.specs.Table.{visit}
+use Rattle.rules.specs.declared.Edition.{Edition}
 use Rattle.rules.specs.declared.Visit.{Visit}
 use Rattle.walk.specs.Walk.{places, toPrimary, toAlternate, Coded, limited, whole}
 
@@ -39,17 +40,17 @@ silentStarts = map bytes ("GN" ∷ "KN" ∷ "PN" ∷ "WR" ∷ "PS" ∷ [])
 unfoldable pub startOf : List ℕ → ℕ
 startOf w = cond (sees (upper w) 0 2 silentStarts) 1 0
 
--- the rule at the places of the word
-abbrev pub ruleOf : List ℕ → ℕ → Visit
-ruleOf w p = visit (upper w) p (marked (slavoGermanic (upper w)))
+-- the rule at the places of the word, under an edition
+abbrev pub ruleOf : Edition → List ℕ → ℕ → Visit
+ruleOf ed w p = visit (upper w) p (mode (slavoGermanic (upper w)) ed)
 
 -- the places that are visited with no limit
-unfoldable pub visitsOf : List ℕ → List ℕ
-visitsOf w = places (ruleOf w) (startOf w) 0 (length w - startOf w)
+unfoldable pub visitsOf : Edition → List ℕ → List ℕ
+visitsOf ed w = places (ruleOf ed w) (startOf w) 0 (length w - startOf w)
 
 -- both codes and the count of visits, with no limit and under the limit n
-abbrev pub wholeOf : List ℕ → Coded
-wholeOf w = whole (toPrimary (ruleOf w)) (toAlternate (ruleOf w)) (visitsOf w)
+abbrev pub wholeOf : Edition → List ℕ → Coded
+wholeOf ed w = whole (toPrimary (ruleOf ed w)) (toAlternate (ruleOf ed w)) (visitsOf ed w)
 
-abbrev pub limitedOf : ℕ → List ℕ → Coded
-limitedOf n w = limited (toPrimary (ruleOf w)) (toAlternate (ruleOf w)) n n (visitsOf w)
+abbrev pub limitedOf : Edition → ℕ → List ℕ → Coded
+limitedOf ed n w = limited (toPrimary (ruleOf ed w)) (toAlternate (ruleOf ed w)) n n (visitsOf ed w)

@@ -3,6 +3,7 @@
 pub mod mark;
 
 use rules::Add;
+use rules::Edition;
 use tally::Tally;
 ghost use mathlib.Core.Path.{_≡_};
 ghost use Prim.Native.Nat.{_+_, _-_, _≤_};
@@ -48,12 +49,12 @@ fn put(buf: &mut [u8], len: usize, limit: usize, add: Add)
     }
 }
 
-// Walks the word and writes both codes under the limit; each buffer has room for its code.
-pub fn walk(w: &[u8], limit: usize, p: &mut [u8], a: &mut [u8]) -> Tally
-    requires { ⌜ (length (limitedOf limit (now w) .primary) ≤ length (now p)) × (length (limitedOf limit (now w) .alternate) ≤ length (now a)) ⌝ }
-    ensures tally { λ r. ⌜ r ≡ tallyOf (limitedOf limit (now (w .entry))) ⌝ }
-    ensures primary { λ r. ⌜ now (p .exit) ≡ filled (limitedOf limit (now (w .entry)) .primary) (now (p .entry)) ⌝ }
-    ensures alternate { λ r. ⌜ now (a .exit) ≡ filled (limitedOf limit (now (w .entry)) .alternate) (now (a .entry)) ⌝ }
+// Walks the word under an edition and writes both codes under the limit; each buffer has room for its code.
+pub fn walk(w: &[u8], edition: Edition, limit: usize, p: &mut [u8], a: &mut [u8]) -> Tally
+    requires { ⌜ (length (limitedOf edition limit (now w) .primary) ≤ length (now p)) × (length (limitedOf edition limit (now w) .alternate) ≤ length (now a)) ⌝ }
+    ensures tally { λ r. ⌜ r ≡ tallyOf (limitedOf edition limit (now (w .entry))) ⌝ }
+    ensures primary { λ r. ⌜ now (p .exit) ≡ filled (limitedOf edition limit (now (w .entry)) .primary) (now (p .entry)) ⌝ }
+    ensures alternate { λ r. ⌜ now (a .exit) ≡ filled (limitedOf edition limit (now (w .entry)) .alternate) (now (a .entry)) ⌝ }
 {
     let slavo = mark::is_slavo_germanic(w);
     let mut at = start_of(w);
@@ -66,7 +67,7 @@ pub fn walk(w: &[u8], limit: usize, p: &mut [u8], a: &mut [u8]) -> Tally
         if (limit <= t.primary) & (limit <= t.alternate) {
             break;
         }
-        let v = letters::visit_at(w, at, slavo);
+        let v = letters::visit_at(w, at, slavo, edition);
         let x = v.primary;
         let y = v.alternate;
         let over = v.over;

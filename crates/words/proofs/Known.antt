@@ -1,5 +1,5 @@
--- Document 01's names with known keys: one statement over the table of the definition's answers. Below it, the counts that its list
--- of errors names, and the room that KXZ takes. Assumes nothing.
+-- Document 01's names with known keys: one statement for each edition over the table of the definition's answers. Below it, the counts
+-- that document 01's list of errors names, and the room that KXZ takes, of edition 1. Assumes nothing.
 use Prim.Native.Nat.{ℕ}
 use Prim.Native.String.{String}
 use mathlib.Core.Path.{_≡_, refl}
@@ -16,6 +16,8 @@ use Rattle.rules.specs.CasesMZ.{casesM, casesP, casesR, casesT, casesW, casesX,
 use Rattle.rules.specs.CasesS.{casesS}
 use Rattle.rules.specs.Table.{rows, casesIn, visit}
 use Rattle.walk.specs.Word.{beginsOne, hasOne, slavoGermanic, startOf, visitsOf}
+use Rattle.rules.specs.declared.Edition.{Edition}
+use Rattle.rules.specs.declared.Edition.the-variants.{E1, E2}
 use Rattle.encoder.specs.declared.Limit.{Limit}
 use Rattle.encoder.specs.declared.Limit.the-variants.{Whole, At}
 use Rattle.encoder.specs.declared.Answer.{Answer}
@@ -39,19 +41,19 @@ pub record Key : Type 0 where
   pub alternate : List ℕ
   pub visits : ℕ
 
-unfoldable pub defined : Known → Key
-defined k =
+unfoldable pub defined : Edition → Known → Key
+defined ed k =
     record {
-      primary = primaryOf (k .limit) (trimmed (bytes (k .word)));
-      alternate = alternateOf (k .limit) (trimmed (bytes (k .word)));
-      visits = visitsUnder (k .limit) (trimmed (bytes (k .word)));
+      primary = primaryOf ed (k .limit) (trimmed (bytes (k .word)));
+      alternate = alternateOf ed (k .limit) (trimmed (bytes (k .word)));
+      visits = visitsUnder ed (k .limit) (trimmed (bytes (k .word)));
     }
 
 unfoldable pub given : Known → Key
 given k = record { primary = bytes (k .primary); alternate = bytes (k .alternate); visits = k .visits }
 
-unfoldable pub names : List Known
-names =
+unfoldable pub others : List Known
+others =
     known "" Whole "" "" 0
     ∷ known "jumped" Whole "JMPT" "AMPT" 6
     ∷ known "jumped" (At 1) "J" "A" 1
@@ -65,12 +67,23 @@ names =
     ∷ known "Rogier" (At 3) "RJ" "RJR" 5
     ∷ known "Villa" Whole "FL" "F" 4
     ∷ known "artois" Whole "ART" "ARTS" 6
-    ∷ known "Van Chi" Whole "FNX" "FNK" 6
     ∷ []
 
-pub names-known : map defined names ≡ map given names
-unfolding defined given names primaryOf alternateOf trimmed visitsOf startOf beginsOne hasOne slavoGermanic visit first holds rows casesIn swallows casesC casesD casesG casesH casesJ casesL casesM casesP casesR casesS casesT casesW casesX casesZ casesVowel casesRest up upper isAt sees byteAt vowel vowelAt endsAfter isLong same
+-- document 01's table names edition 1
+unfoldable pub names : List Known
+names = known "Van Chi" Whole "FNX" "FNK" 6 ∷ others
+
+-- of its names Van Chi alone has another key under edition 2
+unfoldable pub names2 : List Known
+names2 = known "Van Chi" Whole "FNK" "FNK" 6 ∷ others
+
+pub names-known : map (defined E1) names ≡ map given names
+unfolding defined given names others primaryOf alternateOf trimmed visitsOf startOf beginsOne hasOne slavoGermanic visit first holds rows casesIn swallows casesC casesD casesG casesH casesJ casesL casesM casesP casesR casesS casesT casesW casesX casesZ casesVowel casesRest up upper isAt sees byteAt vowel vowelAt endsAfter isLong same
 names-known = refl
+
+pub names2-known : map (defined E2) names2 ≡ map given names2
+unfolding defined given names2 others primaryOf alternateOf trimmed visitsOf startOf beginsOne hasOne slavoGermanic visit first holds rows casesIn swallows casesC casesD casesG casesH casesJ casesL casesM casesP casesR casesS casesT casesW casesX casesZ casesVowel casesRest up upper isAt sees byteAt vowel vowelAt endsAfter isLong same
+names2-known = refl
 
 -- a full primary code alone does not end the walk; both codes full end it; the last J's space counts; blanks go and 28 stays
 unfoldable pub edges : List Known
@@ -83,13 +96,13 @@ edges =
     ∷ known "\u{1c}jumped" (At 4) "JMPT" "JMPT" 7
     ∷ []
 
-pub edges-known : map defined edges ≡ map given edges
+pub edges-known : map (defined E1) edges ≡ map given edges
 unfolding defined given edges primaryOf alternateOf trimmed visitsOf startOf beginsOne hasOne slavoGermanic visit first holds rows casesIn swallows casesC casesD casesG casesH casesJ casesL casesM casesP casesR casesS casesT casesW casesX casesZ casesVowel casesRest up upper isAt sees byteAt vowel vowelAt endsAfter isLong same
 edges-known = refl
 
 -- KXZ with no limit takes buffers of 5 and refuses 4, also the primary one, though its code has 4
 unfoldable pub kxz : ℕ → ℕ → Answer
-kxz m n = answerOf Whole (bytes "KXZ") m n
+kxz m n = answerOf E1 Whole (bytes "KXZ") m n
 
 pub kxz-room : (kxz 5 5 ∷ kxz 4 5 ∷ kxz 5 4 ∷ []) ≡ (Coded 4 5 3 ∷ PrimaryShort ∷ AlternateShort ∷ [])
 unfolding kxz primaryOf alternateOf trimmed visitsOf startOf beginsOne hasOne slavoGermanic visit first holds rows casesIn swallows casesC casesD casesG casesH casesJ casesL casesM casesP casesR casesS casesT casesW casesX casesZ casesVowel casesRest up upper isAt sees byteAt vowel vowelAt endsAfter isLong same

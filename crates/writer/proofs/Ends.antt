@@ -8,6 +8,7 @@ use borrow.Author.Tests.{lt-ltb, le-ltb, ltb-false, ne-eqb, eqb-false}
 use lib.Dec.{ltb, eqb}
 use lib.ListN.{length, take}
 use Rattle.fields.specs.Got.{Got, good, bad}
+use Rattle.encoder.specs.Editions.{lastEdition}
 use Rattle.book.specs.declared.Header.{Header}
 use Rattle.book.specs.declared.Whole.the-variants as whole
 use Rattle.book.specs.Book.{Book, recordBytes, known, readBook}
@@ -28,7 +29,7 @@ module _ (e : End) (room f : ℕ) (p : f ≡ known 1 (e .header .format)) where
   pub bad-format : (f ≡ 0 → ⊥) → f ≡ endFault e room
   bad-format z = rw (← p, ne-eqb f 0 z)
 
-  module _ (none : f ≡ 0) (g : ℕ) (q : g ≡ known 1 (e .header .edition)) where
+  module _ (none : f ≡ 0) (g : ℕ) (q : g ≡ known lastEdition (e .header .edition)) where
     pub bad-edition : (g ≡ 0 → ⊥) → g ≡ endFault e room
     bad-edition z = rw (← p, none, ← q, ne-eqb g 0 z)
 
@@ -39,10 +40,10 @@ module _ (e : End) (room f : ℕ) (p : f ≡ known 1 (e .header .format)) where
     good-end z h = rw (← p, none, ← q, z, le-ltb room (e .len) h)
 
 pub end-fits : (e : End) (room : ℕ) → endFault e room ≡ 0 → e .len ≤ room
-end-fits e room q = go (eqb (known 1 (e .header .format)) 0) refl (eqb (known 1 (e .header .edition)) 0) refl (ltb room (e .len)) refl q
+end-fits e room q = go (eqb (known 1 (e .header .format)) 0) refl (eqb (known lastEdition (e .header .edition)) 0) refl (ltb room (e .len)) refl q
   where
-    go : (p : Bool) → eqb (known 1 (e .header .format)) 0 ≡ p → (q : Bool) → eqb (known 1 (e .header .edition)) 0 ≡ q → (s : Bool) → ltb room (e .len) ≡ s
-        → cond p (cond q (cond s 6 0) (known 1 (e .header .edition))) (known 1 (e .header .format)) ≡ 0 → e .len ≤ room
+    go : (p : Bool) → eqb (known 1 (e .header .format)) 0 ≡ p → (q : Bool) → eqb (known lastEdition (e .header .edition)) 0 ≡ q → (s : Bool) → ltb room (e .len) ≡ s
+        → cond p (cond q (cond s 6 0) (known lastEdition (e .header .edition))) (known 1 (e .header .format)) ≡ 0 → e .len ≤ room
     go false dp q dq s ds z = absurd (eqb-false _ 0 dp z)
     go true dp false dq s ds z = absurd (eqb-false _ 0 dq z)
     go true dp true dq true ds z = absurd (omega arith)
@@ -51,7 +52,7 @@ end-fits e room q = go (eqb (known 1 (e .header .format)) 0) refl (eqb (known 1 
 -- ---- going on
 module _ (room : List ℕ) (e : End) (station : ℕ) (name : List ℕ) where
   abbrev new : List ℕ
-  new = recordBytes (keyed (e .header .cut) station name)
+  new = recordBytes (keyed (e .header) station name)
 
   -- an end at fault
   placed-not : (f : ℕ) → f ≡ endFault e (length room) → (f ≡ 0 → ⊥) → placedAt room e station name ≡ Fault f
@@ -135,7 +136,7 @@ pub no-end-fault : (room : List ℕ) (len : ℕ) (b : Book) (n : ℕ) → readIn
 no-end-fault room len b n e =
     let x : Lies room len b n = lies room len b n e in
     let h = fine-header (take len room) b n (x .reads) in
-    sym (good-end (endOf b len) (length room) (known 1 (b .header .format)) refl (h .front .judged) (known 1 (b .header .edition)) refl (h .behind .front .judged) (x .fits))
+    sym (good-end (endOf b len) (length room) (known 1 (b .header .format)) refl (h .front .judged) (known lastEdition (b .header .edition)) refl (h .behind .front .judged) (x .fits))
 
 -- ---- what was found
 pub record EndTold (len : ℕ) (e : End) (x : Got Book) : Type 0 where
@@ -164,7 +165,7 @@ module _ (room : List ℕ) (len station : ℕ) (name : List ℕ) where
       let m : placedAt room (endOf b len) station name ≡ addedBy room len station name (good b n) = placed-on room (endOf b len) station name z in
       record {
         answer = rw e (ap lengthOf (x .answer) ∙ length-behind (endOf b len) station (placedAt room (endOf b len) station name) ∙ m);
-        leaves = rw e (x .leaves ∙ ap (λ (k : Made). left k room len (recordBytes (keyed (b .header .cut) station name))) m);
+        leaves = rw e (x .leaves ∙ ap (λ (k : Made). left k room len (recordBytes (keyed (b .header) station name))) m);
       }
 
   pub added : (e : End) → endedIn len (readIn room len) ≡ ended.At e → (r : Ended) (room′ : List ℕ) → Appended room e station name r room′

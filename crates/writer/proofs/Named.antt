@@ -1,10 +1,11 @@
 -- What the encoder's answer to a name means for a new record: its faults 1 and 2, or its codes. Assumes nothing.
 use Prim.Native.Nat.{ℕ, _≤_}
-use mathlib.Core.Path.{_≡_, sym, ap, _∙_}
+use mathlib.Core.Path.{_≡_, sym, ap, ap₂, _∙_}
 use mathlib.Core.List.{List}
 use native.Mathlib.Omega.{arith}
 use borrow.Author.Tests.{lt-ltb, le-ltb}
 use lib.ListN.{length}
+use Rattle.rules.specs.declared.Edition.{Edition}
 use Rattle.encoder.specs.declared.Limit.{Limit}
 use Rattle.encoder.specs.declared.Choice.{Choice}
 use Rattle.encoder.specs.declared.Choice.the-variants.{Primary, Alternate}
@@ -14,21 +15,23 @@ use Rattle.encoder.specs.declared.Answer.the-variants as said
 use Rattle.encoder.specs.Numbers.{wordLimit, numberOf}
 use Rattle.encoder.specs.Trim.{trimmed, firstHigh}
 use Rattle.encoder.specs.Encode.{encoderOf, Encoded}
+use Rattle.encoder.specs.Editions.{editionOf}
 use Rattle.encoder.specs.Chosen.{chosenOf, codeOf}
 use Rattle.encoder.proofs.Trim.{trimmed-length}
 use Rattle.encoder.proofs.Codes.{primary-fits, alternate-fits}
 use Rattle.encoder.proofs.Room.{need-at-most}
 use Rattle.encoder.proofs.Part.{part-is}
+use Rattle.book.specs.declared.Header.{Header}
 use Rattle.book.specs.Book.{recordBytes}
 use Rattle.writer.specs.declared.Made.{Made}
-use Rattle.writer.specs.Made.{limitOf, Placed, recordWith, keyed, stationFault, newFault, codeRoom}
+use Rattle.writer.specs.Made.{limitOf, Placed, recordWith, codeUnder, keyed, stationFault, newFault, codeRoom}
 
 -- a code of an accepted name has room
-pub code-fits : (l : Limit) (c : Choice) (w : List ℕ) → length w ≤ wordLimit → length (codeOf l c w) ≤ codeRoom
-code-fits l Primary w h = omega (arith, primary-fits (trimmed w) l, need-at-most l (length (trimmed w)), trimmed-length w)
-code-fits l Alternate w h = omega (arith, alternate-fits (trimmed w) l, need-at-most l (length (trimmed w)), trimmed-length w)
+pub code-fits : (ed : Edition) (l : Limit) (c : Choice) (w : List ℕ) → length w ≤ wordLimit → length (codeOf ed l c w) ≤ codeRoom
+code-fits ed l Primary w h = omega (arith, primary-fits ed (trimmed w) l, need-at-most l (length (trimmed w)), trimmed-length w)
+code-fits ed l Alternate w h = omega (arith, alternate-fits ed (trimmed w) l, need-at-most l (length (trimmed w)), trimmed-length w)
 
-module _ {l : Limit} {w p a p′ a′ : List ℕ} {r : Answer} (e : Encoded l w p a r p′ a′) where
+module _ {ed : Edition} {l : Limit} {w p a p′ a′ : List ℕ} {r : Answer} (e : Encoded ed l w p a r p′ a′) where
   pub short-name : (np na n : ℕ) → r ≡ said.Coded np na n → length w ≤ wordLimit
   short-name np na n q = e .given .accepted .0 (ap numberOf q) .0
 
@@ -46,21 +49,21 @@ module _ {l : Limit} {w p a p′ a′ : List ℕ} {r : Answer} (e : Encoded l w 
         let g = e .given .accepted .0 (ap numberOf q) in
         rw (le-ltb wordLimit (length w) (g .0), le-ltb (firstHigh w) (length w) (g .1))
 
--- the codes that were made with the encoder x, under the cut
-module _ {x : Encoder} {l : Limit} {w p a p′ a′ cp ca : List ℕ} {r : Answer} (cut : ℕ) (made : x ≡ encoderOf l) (under : l ≡ limitOf cut) (e : Encoded (x .limit) w p a r p′ a′)
+-- the codes that were made with the encoder x, under the header
+module _ {x : Encoder} {ed : Edition} {l : Limit} {w p a p′ a′ cp ca : List ℕ} {r : Answer} (h : Header) (made : x ≡ encoderOf ed l) (by : ed ≡ editionOf (h .edition)) (under : l ≡ limitOf (h .cut)) (e : Encoded (x .edition) (x .limit) w p a r p′ a′)
     (np na n : ℕ) (q : r ≡ said.Coded np na n) (fp : cp ≡ chosenOf Primary p′ np a′ na) (fa : ca ≡ chosenOf Alternate p′ np a′ na) where
-  primary-is : cp ≡ codeOf (limitOf cut) Primary w
-  primary-is = part-is (made ∙ ap encoderOf under) e Primary np na n q fp
+  primary-is : cp ≡ codeUnder h Primary w
+  primary-is = part-is (made ∙ ap₂ encoderOf by under) e Primary np na n q fp
 
-  alternate-is : ca ≡ codeOf (limitOf cut) Alternate w
-  alternate-is = part-is (made ∙ ap encoderOf under) e Alternate np na n q fa
+  alternate-is : ca ≡ codeUnder h Alternate w
+  alternate-is = part-is (made ∙ ap₂ encoderOf by under) e Alternate np na n q fa
 
   pub codes-fit : (length w ≤ wordLimit) × (length cp ≤ codeRoom) × (length ca ≤ codeRoom)
   codes-fit =
-      let h : length w ≤ wordLimit = short-name e np na n q in
-      (h, rw primary-is (code-fits (limitOf cut) Primary w h), rw alternate-is (code-fits (limitOf cut) Alternate w h))
+      let s : length w ≤ wordLimit = short-name e np na n q in
+      (s, rw primary-is (code-fits _ _ Primary w s), rw alternate-is (code-fits _ _ Alternate w s))
 
   pub coded-placed : (floor station : ℕ) (room : List ℕ) (len : ℕ) (m : Made) (room′ : List ℕ) → Placed (stationFault floor station) room len (recordBytes (recordWith station w cp ca)) m room′
-      → Placed (newFault floor station w) room len (recordBytes (keyed cut station w)) m room′
+      → Placed (newFault floor station w) room len (recordBytes (keyed h station w)) m room′
   unfolding keyed
   coded-placed floor station room len m room′ y = rw (sym (name-taken e floor station np na n q), sym primary-is, sym alternate-is) y

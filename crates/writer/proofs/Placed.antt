@@ -38,16 +38,16 @@ module _ (room : List ℕ) (at : ℕ) (bytes : List ℕ) where
       record { answer = ap Length (p .next) ∙ sym n; leaves = p .leaves ∙ sym (ap (λ (m : Made). left m room at bytes) n) }
 
 -- ---- a new book
-pub header-is : (cut : ℕ) → headerBytes (newHeader cut) ≡ number 1 ++ (number 1 ++ number cut)
+pub header-is : (cut : ℕ) → headerBytes (newHeader cut) ≡ number 1 ++ (number 2 ++ number cut)
 unfolding headerBytes
 header-is cut = refl
 
-pub header-length : (cut a b c : ℕ) → a ≡ length (groups 4 1) → b ≡ length (groups 4 1) → c ≡ length (groups 4 cut) → length (headerBytes (newHeader cut)) ≡ a + b + c
+pub header-length : (cut a b c : ℕ) → a ≡ length (groups 4 1) → b ≡ length (groups 4 2) → c ≡ length (groups 4 cut) → length (headerBytes (newHeader cut)) ≡ a + b + c
 unfolding headerBytes
 header-length cut a b c e f g =
-    omega (arith, length-append (number 1) (number 1 ++ number cut), length-append (number 1) (number cut), wide 1 a e, wide 1 b f, wide cut c g)
+    omega (arith, length-append (number 1) (number 2 ++ number cut), length-append (number 2) (number cut), wide 1 a e, wide 2 b f, wide cut c g)
 
-pub begun : (cut : ℕ) (room : List ℕ) (r : ℕ) (room′ : List ℕ) → Put room 0 (number 1 ++ (number 1 ++ number cut)) r room′ → length (headerBytes (newHeader cut)) ≤ length room
+pub begun : (cut : ℕ) (room : List ℕ) (r : ℕ) (room′ : List ℕ) → Put room 0 (number 1 ++ (number 2 ++ number cut)) r room′ → length (headerBytes (newHeader cut)) ≤ length room
     → Placed 0 room 0 (headerBytes (newHeader cut)) (Length r) room′
 begun cut room r room′ p h = placed-good room 0 (headerBytes (newHeader cut)) 0 refl (omega arith) r room′ (rw (header-is cut) p)
 

@@ -7,6 +7,7 @@ use mathlib.Core.List.{List}
 use lib.Dec.{ltb, eqb}
 use lib.ListN.{length, take}
 use Rattle.fields.specs.Got.{Got, good, bad}
+use Rattle.encoder.specs.Editions.{lastEdition}
 use Rattle.book.specs.Book.{Book, recordBytes, known, readBook}
 use Rattle.book.specs.Told.{floorOf}
 use Rattle.writer.specs.declared.End.{End}
@@ -44,11 +45,11 @@ abbrev pub first : ℕ → ℕ → ℕ
 first f g = cond (eqb f 0) g f
 
 abbrev pub endFault : End → ℕ → ℕ
-endFault e room = first (known 1 (e .header .format)) (first (known 1 (e .header .edition)) (cond (ltb room (e .len)) 6 0))
+endFault e room = first (known 1 (e .header .format)) (first (known lastEdition (e .header .edition)) (cond (ltb room (e .len)) 6 0))
 
 abbrev pub placedAt : List ℕ → End → ℕ → List ℕ → Made
 placedAt room e station name =
-    placed (first (endFault e (length room)) (newFault (e .floor) station name)) (length room) (e .len) (recordBytes (keyed (e .header .cut) station name))
+    placed (first (endFault e (length room)) (newFault (e .floor) station name)) (length room) (e .len) (recordBytes (keyed (e .header) station name))
 
 -- the end behind the new record
 abbrev pub behind : End → ℕ → Made → Ended
@@ -57,18 +58,18 @@ behind e station (Fault f) = ended.Fault f
 
 pub record Appended (room : List ℕ) (e : End) (station : ℕ) (name : List ℕ) (r : Ended) (room′ : List ℕ) : Type 0 where
   pub answer : r ≡ behind e station (placedAt room e station name)
-  pub leaves : room′ ≡ left (placedAt room e station name) room (e .len) (recordBytes (keyed (e .header .cut) station name))
+  pub leaves : room′ ≡ left (placedAt room e station name) room (e .len) (recordBytes (keyed (e .header) station name))
 
 -- ---- adding: the book is read first
 abbrev pub addedBy : List ℕ → ℕ → ℕ → List ℕ → Got Book → Made
 addedBy room len station name (bad f) = Fault f
 addedBy room len station name (good b n) =
-    placed (newFault (floorOf 0 (b .records)) station name) (length room) len (recordBytes (keyed (b .header .cut) station name))
+    placed (newFault (floorOf 0 (b .records)) station name) (length room) len (recordBytes (keyed (b .header) station name))
 
 abbrev pub leftBy : List ℕ → ℕ → ℕ → List ℕ → Got Book → List ℕ
 leftBy room len station name (bad f) = room
 leftBy room len station name (good b n) =
-    left (addedBy room len station name (good b n)) room len (recordBytes (keyed (b .header .cut) station name))
+    left (addedBy room len station name (good b n)) room len (recordBytes (keyed (b .header) station name))
 
 pub record Added (room : List ℕ) (len station : ℕ) (name : List ℕ) (r : Made) (room′ : List ℕ) : Type 0 where
   pub answer : r ≡ addedBy room len station name (readIn room len)

@@ -9,9 +9,12 @@ use lib.ListN.{length}
 use lib.Seq.{sets}
 use Rattle.encoder.specs.declared.Limit.{Limit}
 use Rattle.encoder.specs.declared.Limit.the-variants.{Whole, At}
-use Rattle.encoder.specs.Trim.{trimmed, firstHigh}
+use Rattle.encoder.specs.declared.Choice.{Choice}
+use Rattle.encoder.specs.declared.Choice.the-variants.{Primary, Alternate}
+use Rattle.encoder.specs.Trim.{firstHigh}
 use Rattle.encoder.specs.Numbers.{wordLimit}
-use Rattle.encoder.specs.Encode.{primaryOf, alternateOf}
+use Rattle.encoder.specs.Editions.{editionOf}
+use Rattle.encoder.specs.Chosen.{codeOf}
 use Rattle.writer.specs.declared.Made.{Made}
 use Rattle.writer.specs.declared.Made.the-variants.{Length, Fault}
 use Rattle.book.specs.declared.Header.{Header}
@@ -42,7 +45,7 @@ pub record Placed (fault : ℕ) (room : List ℕ) (at : ℕ) (bytes : List ℕ) 
 
 -- ---- a new book
 abbrev pub newHeader : ℕ → Header
-newHeader cut = record { format = 1; edition = 1; cut = cut }
+newHeader cut = record { format = 1; edition = 2; cut = cut }
 
 abbrev pub cutFault : ℕ → ℕ
 cutFault cut = cond (ltb cut (2 ^ 28)) 0 5
@@ -50,9 +53,12 @@ cutFault cut = cond (ltb cut (2 ^ 28)) 0 5
 abbrev pub recordWith : ℕ → List ℕ → List ℕ → List ℕ → Record
 recordWith station name primary alternate = record { station = station; name = name; primary = primary; alternate = alternate }
 
--- ---- a new record: its name is encoded under the header's cut
-unfoldable pub keyed : ℕ → ℕ → List ℕ → Record
-keyed cut station name = recordWith station name (primaryOf (limitOf cut) (trimmed name)) (alternateOf (limitOf cut) (trimmed name))
+-- ---- a new record: its name is encoded under the header's edition and cut
+abbrev pub codeUnder : Header → Choice → List ℕ → List ℕ
+codeUnder h c name = codeOf (editionOf (h .edition)) (limitOf (h .cut)) c name
+
+unfoldable pub keyed : Header → ℕ → List ℕ → Record
+keyed h station name = recordWith station name (codeUnder h Primary name) (codeUnder h Alternate name)
 
 -- 5 and 8 of a station
 abbrev pub stationFault : ℕ → ℕ → ℕ

@@ -20,6 +20,7 @@ use encoder::Encoder;
 use encoder::Limit;
 use encoder::WORD_LIMIT;
 use encoder::chosen;
+use encoder::edition_of;
 
 // A code of any accepted name has room here, whatever the limit.
 const CODE_ROOM: usize = 2 * WORD_LIMIT - 1;
@@ -159,11 +160,11 @@ fn append_coded(
     Made::Length(put_record(room, len, number, name, primary, alternate))
 }
 
-// Adds a record to a book with this cut and this least station.
+// Adds a record to a book with this header and this least station.
 fn append_under(
     room: &mut [u8],
     len: usize,
-    cut: u32,
+    header: Header,
     floor: u32,
     station: u64,
     name: &[u8],
@@ -171,11 +172,13 @@ fn append_under(
     requires { ⌜ len ≤ length (now room) ⌝ }
     ensures { λ r. ⌜
         Placed (newFault floor station (now (name .entry))) (now (room .entry)) len
-        (recordBytes (keyed cut station (now (name .entry)))) r (now (room .exit)) ⌝ }
+        (recordBytes (keyed header station (now (name .entry)))) r (now (room .exit)) ⌝ }
 {
     let mut primary = [0u8; CODE_ROOM];
     let mut alternate = [0u8; CODE_ROOM];
-    match Encoder::new(limit_of(cut)).encode(name, &mut primary, &mut alternate) {
+    let edition = edition_of(header.edition as u64);
+    let limit = limit_of(header.cut);
+    match Encoder::in_edition(edition, limit).encode(name, &mut primary, &mut alternate) {
         Answer::Coded {
             primary: p,
             alternate: a,
@@ -221,7 +224,7 @@ pub fn append(room: &mut [u8], end: End, station: u64, name: &[u8]) -> Ended
         return Ended::Fault(fault);
     }
     let header = end.header;
-    let made = append_under(room, end.len, header.cut, end.floor, station, name);
+    let made = append_under(room, end.len, header, end.floor, station, name);
     match made {
         Made::Length(len) => Ended::At(End {
             header,

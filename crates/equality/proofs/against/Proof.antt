@@ -7,6 +7,7 @@ use denote.Ref.{now}
 use Rattle.encoder.specs.declared.Answer.the-variants as said
 use Rattle.equality.specs.declared.Verdict.the-variants.{Equal, Different}
 use Rattle.encoder.specs.Encode.{numberOf}
+use Rattle.rules.specs.declared.Edition.the-variants.{E1}
 use Rattle.encoder.specs.Chosen.{codeOf}
 use Rattle.equality.specs.Equality.{unlessRefused, compared}
 use Rattle.encoder.proofs.Room.{never-three, never-four}
@@ -59,7 +60,7 @@ abbrev entry : tie.After-same-bytes → tie.Start
 entry c = c .before .before .before .before .before .before .before .before .before .before .before .before .before .before .before
 
 by-test : (c : tie.After-same-bytes) (r : Bool) → c .same-bytes .result ≡ r
-    → cond r Equal Different ≡ unlessRefused 2 (now (entry c .args .two)) (compared (now (entry c .args .code)) (codeOf (entry c .args .limit) (entry c .args .choice) (now (entry c .args .two))))
+    → cond r Equal Different ≡ unlessRefused 2 (now (entry c .args .two)) (compared (now (entry c .args .code)) (codeOf E1 (entry c .args .limit) (entry c .args .choice) (now (entry c .args .two))))
 by-test c r t =
     let a = entry c .args in
     let e = c .before .before .before .before .before .before .before .before .before .encode .ensures in

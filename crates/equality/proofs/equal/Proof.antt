@@ -7,6 +7,7 @@ use borrow.Author.Needs.{needs}
 use denote.Ref.{now}
 use Rattle.encoder.specs.declared.Answer.the-variants as said
 use Rattle.encoder.specs.Encode.{numberOf}
+use Rattle.rules.specs.declared.Edition.the-variants.{E1}
 use Rattle.encoder.specs.Chosen.{codeOf}
 use Rattle.equality.specs.Equality.{unlessRefused, compared}
 use Rattle.encoder.proofs.Room.{never-three, never-four}
@@ -62,7 +63,7 @@ returns c =
     let q = c .before .before .before .before .before .primary .given .1 in
     answered _ _ _ _
     (c .against .ensures
-    ∙ ap (λ (x : List ℕ). unlessRefused 2 (now (a .two)) (compared x (codeOf (a .limit) (a .choice) (now (a .two)))))
+    ∙ ap (λ (x : List ℕ). unlessRefused 2 (now (a .two)) (compared x (codeOf E1 (a .limit) (a .choice) (now (a .two)))))
     (part-is (c .before .before .before .before .before .before .before .before .before .before .before .before .new .ensures) e (a .choice) _ _ _ q (c .before .chosen .ensures))
     ∙ told e 1 _ (said.Coded _ _ _) q)
 

@@ -9,7 +9,7 @@ use denote.Ref.{now}
 use lib.Dec.{leb}
 use lib.ListN.{length}
 use Rattle.windows.specs.Text.{upper}
-use Rattle.rules.specs.Cond.{marked}
+use Rattle.rules.specs.Cond.{mode}
 use Rattle.rules.specs.Table.{visit}
 use Rattle.rules.proofs.Bound.{visit-short}
 use Rattle.walk.specs.Word.{ruleOf}
@@ -18,10 +18,10 @@ use Rattle.walk.proofs.walk.Statement.{statement}
 use Rattle.walk.proofs.walk.Tie as tie
 
 abbrev Inv-loop : tie.InvT-loop
-Inv-loop w limit p₀ a₀ slavo at₀ t₀ p a at t = Going w p₀ a₀ p a limit at t
+Inv-loop w ed limit p₀ a₀ slavo at₀ t₀ p a at t = Going ed w p₀ a₀ p a limit at t
 
 abbrev μ-loop : tie.MeasureT-loop
-μ-loop w limit p₀ a₀ slavo at₀ t₀ p a at t = length w - at
+μ-loop w ed limit p₀ a₀ slavo at₀ t₀ p a at t = length w - at
 
 is-slavo-germanic-requires : tie.Need-is-slavo-germanic-requires Inv-loop μ-loop
 is-slavo-germanic-requires c κs = search needs
@@ -32,7 +32,7 @@ start-of-requires c κs = search needs
 loop-holds : tie.Need-loop-holds Inv-loop μ-loop
 loop-holds c =
     let a = c .before .before .before .before .before .args in
-    rw (c .start-of .ensures) (going (now (a .w)) (now (a .p)) (now (a .a)) (a .limit))
+    rw (c .start-of .ensures) (going (a .edition) (now (a .w)) (now (a .p)) (now (a .a)) (a .limit))
 
 visit-at-requires : tie.Need-visit-at-requires Inv-loop μ-loop
 visit-at-requires c κs = search needs
@@ -48,10 +48,10 @@ entry c = head c .before .before .before .before .before .before
 inside : (c : tie.After-visit-at Inv-loop μ-loop) → head c .loop .at < length (now (entry c .args .w))
 inside c = c .before .before .before .before .loop-test .taken
 
-ruled : (c : tie.After-visit-at Inv-loop μ-loop) → c .visit-at .result ≡ ruleOf (now (entry c .args .w)) (head c .loop .at)
+ruled : (c : tie.After-visit-at Inv-loop μ-loop) → c .visit-at .result ≡ ruleOf (entry c .args .edition) (now (entry c .args .w)) (head c .loop .at)
 ruled c =
     c .visit-at .ensures
-    ∙ ap (λ (m : Bool). visit (upper (now (entry c .args .w))) (head c .loop .at) (marked m)) (head c .before .before .is-slavo-germanic .ensures)
+    ∙ ap (λ (m : Bool). visit (upper (now (entry c .args .w))) (head c .loop .at) (mode m (entry c .args .edition))) (head c .before .before .is-slavo-germanic .ensures)
 
 wanted : (c : tie.After-visit-at Inv-loop μ-loop) → (leb (entry c .args .limit) (head c .loop .t .primary) && leb (entry c .args .limit) (head c .loop .t .alternate)) ≡ false
 wanted c = c .before .if1 .left

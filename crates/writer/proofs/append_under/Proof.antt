@@ -16,6 +16,8 @@ pub append-under-spec : {M : Type 1} → statement M
 append-under-spec =
     tie.close
     (tie.spec
+    (λ c. search needs)
+    (λ c κs. search needs)
     (λ c κs. search needs)
     (λ c κs. search needs)
     (λ c. search needs)
@@ -33,8 +35,8 @@ append-under-spec =
     let p = k .before .before .before .before .before in
     let e = p .before .before .before .before in
     let n = e .before .before .before in
-    let s = n .before .before .before .before in
-    let f = codes-fit (s .args .cut) (n .new .ensures) (n .before .limit-of .ensures) (e .encode .ensures) _ _ _ (p .p .given .1) (k .chosen .ensures) (c .chosen2 .ensures) in
+    let s = n .before .before .before .before .before .before in
+    let f = codes-fit (s .args .header) (n .in-edition .ensures) (n .before .before .edition-of .ensures) (n .before .limit-of .ensures) (e .encode .ensures) _ _ _ (p .p .given .1) (k .chosen .ensures) (c .chosen2 .ensures) in
     (s .pre, f .0, f .1, f .2))
     (λ c. search needs)
     (λ c. search needs)
@@ -48,15 +50,15 @@ append-under-spec =
     let p = k .before .before .before .before .before in
     let e = p .before .before .before .before in
     let n = e .before .before .before in
-    let a = n .before .before .before .before .args in
-    coded-placed (a .cut) (n .new .ensures) (n .before .limit-of .ensures) (e .encode .ensures) _ _ _ (p .p .given .1) (k .chosen .ensures) (g .chosen2 .ensures) (a .floor) (a .station) (now (a .room)) (a .len) _ _ (d .append-coded .ensures))
+    let a = n .before .before .before .before .before .before .args in
+    coded-placed (a .header) (n .in-edition .ensures) (n .before .before .edition-of .ensures) (n .before .limit-of .ensures) (e .encode .ensures) _ _ _ (p .p .given .1) (k .chosen .ensures) (g .chosen2 .ensures) (a .floor) (a .station) (now (a .room)) (a .len) _ _ (d .append-coded .ensures))
     (λ c.
     let e = c .before .before .before .before in
-    let a = e .before .before .before .before .before .before .before .args in
-    placed-fault (now (a .room)) (a .len) (recordBytes (keyed (a .cut) (a .station) (now (a .name)))) 1 (newFault (a .floor) (a .station) (now (a .name))) (name-too-long (e .encode .ensures) (a .floor) (a .station) (c .enum-told .given .1)) (λ z. omega arith))
+    let a = e .before .before .before .before .before .before .before .before .before .args in
+    placed-fault (now (a .room)) (a .len) (recordBytes (keyed (a .header) (a .station) (now (a .name)))) 1 (newFault (a .floor) (a .station) (now (a .name))) (name-too-long (e .encode .ensures) (a .floor) (a .station) (c .enum-told .given .1)) (λ z. omega arith))
     (λ c.
     let e = c .before .before .before .before in
-    let a = e .before .before .before .before .before .before .before .args in
-    placed-fault (now (a .room)) (a .len) (recordBytes (keyed (a .cut) (a .station) (now (a .name)))) 2 (newFault (a .floor) (a .station) (now (a .name))) (name-not-ascii (e .encode .ensures) (a .floor) (a .station) _ (c .enum-told2 .given .1)) (λ z. omega arith))
+    let a = e .before .before .before .before .before .before .before .before .before .args in
+    placed-fault (now (a .room)) (a .len) (recordBytes (keyed (a .header) (a .station) (now (a .name)))) 2 (newFault (a .floor) (a .station) (now (a .name))) (name-not-ascii (e .encode .ensures) (a .floor) (a .station) _ (c .enum-told2 .given .1)) (λ z. omega arith))
     (λ c. absurd (never-three (c .before .before .before .before .encode .ensures) (omega arith) (omega arith) (ap numberOf (c .enum-told3 .given .1))))
     (λ c. absurd (never-four (c .before .before .before .before .encode .ensures) (omega arith) (omega arith) (ap numberOf (c .enum-told4 .given .1)))))

@@ -8,6 +8,7 @@ use borrow.Author.Needs.{needs}
 use borrow.Author.Tests.{not-true, not-false}
 use denote.Ref.{now}
 use lib.ListN.{length}
+use Rattle.rules.specs.declared.Edition.{Edition}
 use Rattle.encoder.specs.declared.Limit.{Limit}
 use Rattle.encoder.specs.Trim.{trimmed, isAscii}
 use Rattle.encoder.specs.Encode.{wordLimit, needOf, capOf}
@@ -19,7 +20,7 @@ use Rattle.encoder.proofs.Encoder.encode.Tie as tie
 returns : tie.Need-returns
 returns c =
     let a = c .before .before .before .before .args in
-    too-long (a .self .limit) (now (a .word)) (now (a .primary)) (now (a .alternate)) (omega arith)
+    too-long (a .self .edition) (a .self .limit) (now (a .word)) (now (a .primary)) (now (a .alternate)) (omega arith)
 
 is-ascii-requires : tie.Need-is-ascii-requires
 is-ascii-requires c κs = search needs
@@ -30,7 +31,7 @@ first-high-requires c κs = search needs
 returns-2 : tie.Need-returns-2
 returns-2 c =
     let a = c .before .before .before .before .before .before .before .args in
-    not-ascii (a .self .limit) (now (a .word)) (now (a .primary)) (now (a .alternate)) (omega arith) (c .first-high .result)
+    not-ascii (a .self .edition) (a .self .limit) (now (a .word)) (now (a .primary)) (now (a .alternate)) (omega arith) (c .first-high .result)
     (c .first-high .ensures) (sym (c .before .before .is-ascii .ensures) ∙ not-true _ (c .before .if2 .taken))
 
 front-requires : tie.Need-front-requires
@@ -61,6 +62,9 @@ entry c = c .before .before .before .before .before .before .before .before .bef
 abbrev word : tie.After-need-of → List ℕ
 word c = now (entry c .args .word)
 
+abbrev edition : tie.After-need-of → Edition
+edition c = entry c .args .self .edition
+
 abbrev limit : tie.After-need-of → Limit
 limit c = entry c .args .self .limit
 
@@ -86,13 +90,13 @@ returns-3 : tie.Need-returns-3
 returns-3 c =
     let m = c .before in
     let a = entry m .args in
-    primary-short (limit m) (word m) (now (a .primary)) (now (a .alternate)) (fits m) (ascii m) (m .need-of .result) (need-is m) (c .if3 .taken)
+    primary-short (edition m) (limit m) (word m) (now (a .primary)) (now (a .alternate)) (fits m) (ascii m) (m .need-of .result) (need-is m) (c .if3 .taken)
 
 returns-4 : tie.Need-returns-4
 returns-4 c =
     let m = c .before .before in
     let a = entry m .args in
-    alternate-short (limit m) (word m) (now (a .primary)) (now (a .alternate)) (fits m) (ascii m) (m .need-of .result) (need-is m)
+    alternate-short (edition m) (limit m) (word m) (now (a .primary)) (now (a .alternate)) (fits m) (ascii m) (m .need-of .result) (need-is m)
     (c .before .if3 .left) (c .if4 .taken)
 
 cap-of-requires : tie.Need-cap-of-requires
@@ -112,7 +116,7 @@ walk-requires c κs =
     let o = c .before .before .before in
     let m = o .before .before .before in
     let a = entry m .args in
-    has-room (limit m) (word m) (now (a .primary)) (now (a .alternate)) (fits m) (ascii m) (m .need-of .result) (need-is m)
+    has-room (edition m) (limit m) (word m) (now (a .primary)) (now (a .alternate)) (fits m) (ascii m) (m .need-of .result) (need-is m)
     (o .before .before .if3 .left) (o .before .if4 .left) (o .cap-of .result) _ (cap-is m _ (o .cap-of .ensures)) (trimmed-at m .same)
 
 same-length : tie.Need-same-length
@@ -127,7 +131,7 @@ returns-5 c =
     let o = c .before .before .before .before .before .before .before .before in
     let m = o .before .before .before in
     let a = entry m .args in
-    coded (limit m) (word m) (now (a .primary)) (now (a .alternate)) (fits m) (ascii m) (m .need-of .result) (need-is m)
+    coded (edition m) (limit m) (word m) (now (a .primary)) (now (a .alternate)) (fits m) (ascii m) (m .need-of .result) (need-is m)
     (o .before .before .if3 .left) (o .before .if4 .left) (o .cap-of .result) _ (cap-is m _ (o .cap-of .ensures)) (trimmed-at m .same)
     (w .result) _ _ (w .ensures .0) (w .ensures .1 .0) (w .ensures .1 .1)
 

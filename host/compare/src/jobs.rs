@@ -161,6 +161,8 @@ fn check_pair<E>(rng: &mut Rng, check: &mut impl FnMut(Trial) -> Result<(), E>) 
     let kind = match rng.below(16) {
         0 => Kind::AnyBytes,
         1..=4 => Kind::Names,
+        // The question is edition 1's.
+        5..=6 => Kind::Van,
         _ => Kind::Fragments,
     };
     let length = if rng.once_in(64) { WORD_LIMIT - 2 + rng.below(5) } else { rng.below(SHORT) };

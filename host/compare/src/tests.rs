@@ -275,6 +275,41 @@ fn finds_a_visit_too_many_by_edition_2() {
     by_edition(fault, "encode b\"", 2);
 }
 
+/// The library but for the equality question, which it answers by edition 2.
+struct EqualBy2;
+
+impl Port for EqualBy2 {
+    fn encode(&self, word: &[u8], primary: &mut [u8], alternate: &mut [u8], limit: Option<u64>) -> Answer {
+        Library.encode(word, primary, alternate, limit)
+    }
+
+    fn encode_in(&self, edition: u64, word: &[u8], primary: &mut [u8], alternate: &mut [u8], limit: Option<u64>) -> Answer {
+        Library.encode_in(edition, word, primary, alternate, limit)
+    }
+
+    fn equal(&self, first: &[u8], second: &[u8], limit: Option<u64>, alternate: bool) -> Verdict {
+        let mut verdict = Library.equal(first, second, limit, alternate);
+        if verdict.number == 0 {
+            let [first, second] = [first, second].map(|word| {
+                let (mut codes, mut others) = ([0; CODE_ROOM], [0; CODE_ROOM]);
+                let answer = Library.encode_in(2, word, &mut codes, &mut others, limit);
+                if alternate {
+                    others[..answer.alternate].to_vec()
+                } else {
+                    codes[..answer.primary].to_vec()
+                }
+            });
+            verdict.equal = u64::from(first == second);
+        }
+        verdict
+    }
+}
+
+#[test]
+fn finds_equality_asked_by_edition_2() {
+    found(EqualBy2, "equal b\"");
+}
+
 #[test]
 fn numbers_are_grouped() {
     assert_eq!([0, 999, 1000, 1_234_567].map(grouped), ["0", "999", "1,000", "1,234,567"]);

@@ -1,5 +1,9 @@
 /* Simmerquilt: Double Metaphone keys from a proved port of src/double_metaphone.rs of rphonetic 4.0.0.
  *
+ * There are two editions of the letter rules. Edition 1 alone equals that Rust. Edition 2 is the same but for one test of the rule
+ * that sounds CH as K: it tests for "VAN " and "VON " at the word's front, where edition 1 compares these four bytes with the three
+ * letters alone, which never holds. So "Van Chi" has the codes FNX and FNK by edition 1, and FNK and FNK by edition 2.
+ *
  * A word is bytes. Bytes 9 to 13 and 32 are trimmed at both ends, and a to z count as A to Z. Each code lies at the front of
  * the buffer that the caller lends for it; there is no byte 0 behind it.
  *
@@ -8,14 +12,15 @@
  * else that is lent. A pointer with length 0 is not followed.
  *
  * No.  given exactly when                                     returns and leaves
- * 0    none of 1 to 4                                         both lengths and the visits; codes written
+ * 0    none of the others                                     both lengths and the visits; codes written
+ * 7    the edition is not known: neither 1 nor 2              as 1
  * 1    the word, before trimming, is over 1,024 bytes         lengths 0, visits 0; buffers untouched
  * 2    some byte of it is 128 or more                         also the place of the first; otherwise as 1
  * 3    the primary buffer is shorter than the need            as 1
  * 4    the alternate buffer is shorter than the need          as 1
  *
- * The first that holds is given. The need is 0 if the trimmed word is empty, else 2 * t - 1 for its t bytes, or the limit if
- * that is smaller.
+ * The first that holds is given, in this order; only simmerquilt_encode_in is passed an edition, so that it alone gives 7. The need
+ * is 0 if the trimmed word is empty, else 2 * t - 1 for its t bytes, or the limit if that is smaller.
  */
 #ifndef SIMMERQUILT_H
 #define SIMMERQUILT_H
@@ -45,7 +50,7 @@ enum {
     SIMMERQUILT_DEFAULT_LIMIT = 4
 };
 
-/* Where each number stands in the answer of simmerquilt_encode. */
+/* Where each number stands in the answer of simmerquilt_encode and of simmerquilt_encode_in. */
 enum {
     SIMMERQUILT_NUMBER,
     SIMMERQUILT_PLACE,
@@ -55,13 +60,23 @@ enum {
     SIMMERQUILT_ANSWER_COUNT
 };
 
-/* Encodes a word into two lent buffers. Each code has at most `limit` bytes where `limited` is true. Bytes behind a code, and
- * under a refusal both buffers, keep what they held. The visits are the fewest that fill both codes to the limit, or all. */
+/* Encodes a word by edition 1 into two lent buffers. Each code has at most `limit` bytes where `limited` is true. Bytes behind a
+ * code, and under a refusal both buffers, keep what they held. The visits are the fewest that fill both codes to the limit, or
+ * all. */
 void simmerquilt_encode(const uint8_t *word, size_t word_length,
                         uint8_t *primary, size_t primary_room,
                         uint8_t *alternate, size_t alternate_room,
                         bool limited, uint64_t limit,
                         uint64_t answer[SIMMERQUILT_ANSWER_COUNT]);
+
+/* Encodes a word as simmerquilt_encode does, by the edition of this number: 1 for the same answer, or 2. For any other the number is
+ * 7, SIMMERQUILT_UNKNOWN, whatever the word and the buffers are. */
+void simmerquilt_encode_in(uint64_t edition,
+                           const uint8_t *word, size_t word_length,
+                           uint8_t *primary, size_t primary_room,
+                           uint8_t *alternate, size_t alternate_room,
+                           bool limited, uint64_t limit,
+                           uint64_t answer[SIMMERQUILT_ANSWER_COUNT]);
 
 /* Where each number stands in the answer of simmerquilt_equal. */
 enum {
@@ -72,9 +87,9 @@ enum {
     SIMMERQUILT_EQUAL_COUNT
 };
 
-/* Whether two words have the same code under the limit: the alternate one where `alternate` is true, else the primary one. The
- * answer is the number (0, 1 or 2), the refused word (1 or 2, else 0), the place in it, and 1 for equal codes, else 0. The first
- * word is checked wholly before the second. Both may be the same bytes. */
+/* Whether two words have the same code by edition 1 under the limit: the alternate one where `alternate` is true, else the primary
+ * one. The answer is the number (0, 1 or 2), the refused word (1 or 2, else 0), the place in it, and 1 for equal codes, else 0. The
+ * first word is checked wholly before the second. Both may be the same bytes. */
 void simmerquilt_equal(const uint8_t *first, size_t first_length,
                        const uint8_t *second, size_t second_length,
                        bool limited, uint64_t limit,
@@ -84,10 +99,11 @@ void simmerquilt_equal(const uint8_t *first, size_t first_length,
 /* The station key book: a header and records, in bytes that the caller keeps.
  *
  * A number is written in groups of seven bits, low group first; the high bit of a byte says that more follow. Only the shortest
- * form is good, at most four groups. The header is the format, 1, the rule edition, 1, and the cut: 0 for no limit, else the
+ * form is good, at most four groups. The header is the format, 1, the rule edition, 1 or 2, and the cut: 0 for no limit, else the
  * limit plus 1. A record is the station, the name's length and the name, the primary code's length and the code, and the same
  * of the alternate code. Stations rise strictly. A name is stored as it is lent, untrimmed; its codes are those that
- * simmerquilt_encode gives under the header's cut.
+ * simmerquilt_encode_in gives by the header's edition and under its cut. A new book carries edition 2; one that was stored under
+ * edition 1 is read and added to under edition 1.
  *
  * The room, the name and the answer must lie apart from each other. A refusal writes nothing but the answer, whose other numbers
  * are then 0. Bytes behind the new end of a book keep what they held.
@@ -98,7 +114,7 @@ void simmerquilt_equal(const uint8_t *first, size_t first_length,
  * 2    some byte of a name is 128 or more
  * 5    a number is in a bad form or needs more than four groups
  * 6    the book ends inside something
- * 7    the format or the edition is not known
+ * 7    the format or the edition is not known: the format is not 1, or the edition neither 1 nor 2
  * 8    a station is not above the one before
  * 9    the lent room is too short for the result
  *
@@ -116,9 +132,9 @@ enum {
 enum {
     /* The first number that four groups do not hold; stations and cuts are below it. */
     SIMMERQUILT_NUMBER_END = 268435456,
-    /* The format and the edition of a new book. */
+    /* The format and the edition of a new book; a stored one may carry an older edition. */
     SIMMERQUILT_FORMAT = 1,
-    SIMMERQUILT_EDITION = 1,
+    SIMMERQUILT_EDITION = 2,
     /* A room of this length is never too short for a new book. */
     SIMMERQUILT_HEADER_ROOM = 6,
     /* So many bytes behind a book are never too few for one more record. */
@@ -132,7 +148,7 @@ enum {
     SIMMERQUILT_BOOK_COUNT
 };
 
-/* Writes a book without records to the front of the room. The answer is the number (0, 5 or 9) and the book's length. */
+/* Writes a book of edition 2 without records to the front of the room. The answer is the number (0, 5 or 9) and the book's length. */
 void simmerquilt_book_start(uint8_t *room, size_t room_length,
                             bool limited, uint64_t limit,
                             uint64_t answer[SIMMERQUILT_BOOK_COUNT]);
@@ -220,7 +236,8 @@ void simmerquilt_book_append(uint8_t *room, size_t room_length,
                              const uint8_t *name, size_t name_length,
                              uint64_t answer[SIMMERQUILT_APPEND_COUNT]);
 
-/* The join of two books, whose cuts may differ: all pairs of a station of the first and a station of the second book that meet.
+/* The join of two books of one edition, whose cuts may differ: all pairs of a station of the first and a station of the second book
+ * that meet.
  *
  * Two stations meet where their primary codes, or the alternate ones where `alternate` is true, agree on their first m bytes: m is
  * the smaller limit of both books, and no limit puts no bound. A code shorter than m counts whole, so that it meets none that is
@@ -237,7 +254,7 @@ void simmerquilt_book_append(uint8_t *room, size_t room_length,
  * 0             none of these                                              is 0 in the words that are needed
  *
  * The first that holds is given. Words of the scratch behind those that are needed keep what they held, and under a refusal so does
- * the pairs' room; the count is then 0. Only one edition is known as yet, so that 10 is not met.
+ * the pairs' room; the count is then 0.
  *
  * A book crafted so that many of its codes share a slot may slow a join; it can never change the result.
  */

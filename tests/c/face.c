@@ -1,5 +1,6 @@
-/* Calls the library as a C program does: words with known keys, every refusal, guard bytes around the buffers, and a station key
- * book that is started, added to, read and joined with another. It writes nothing where all is as it should be. */
+/* Calls the library as a C program does: words with known keys by both editions, every refusal, guard bytes around the buffers, and
+ * station key books of both editions that are started, added to, read and joined with another. It writes nothing where all is as it
+ * should be. */
 #include "simmerquilt.h"
 
 #include <stdio.h>
@@ -40,24 +41,55 @@ static bool answered(const uint64_t *answer, uint64_t number, uint64_t place, ui
            answer[SIMMERQUILT_VISITS] == visits;
 }
 
+/* What is passed as the edition for a call of simmerquilt_encode, which takes none; no edition has this number. */
+#define PLAIN (UINT64_MAX / 3)
+
+static void encode(uint64_t edition, const void *word, size_t length, struct lent *lent, size_t primary, size_t alternate,
+                   bool limited, uint64_t limit, uint64_t *answer) {
+    memset(lent->bytes, HELD, BOTH);
+    if (edition == PLAIN) {
+        simmerquilt_encode(word, length, primary_of(lent), primary, alternate_of(lent), alternate, limited, limit, answer);
+    } else {
+        simmerquilt_encode_in(edition, word, length, primary_of(lent), primary, alternate_of(lent), alternate, limited, limit,
+                              answer);
+    }
+}
+
 /* A limit below 0 is none. */
-static void known(const char *word, int limit, const char *primary, const char *alternate, uint64_t visits) {
+static void known_in(uint64_t edition, const char *word, int limit, const char *primary, const char *alternate, uint64_t visits) {
     struct lent lent;
     uint64_t answer[SIMMERQUILT_ANSWER_COUNT];
-    memset(lent.bytes, HELD, BOTH);
-    simmerquilt_encode((const uint8_t *)word, strlen(word), primary_of(&lent), ROOM, alternate_of(&lent), ROOM, limit >= 0,
-                       limit >= 0 ? (uint64_t)limit : 0, answer);
+    encode(edition, word, strlen(word), &lent, ROOM, ROOM, limit >= 0, limit >= 0 ? (uint64_t)limit : 0, answer);
     expect(answered(answer, SIMMERQUILT_ACCEPTED, 0, strlen(primary), strlen(alternate), visits), "answer", word);
     expect(holds(&lent, primary, alternate), "buffers", word);
 }
 
-static void refused(const void *word, size_t length, size_t primary, size_t alternate, uint64_t number, uint64_t place) {
+/* A word on which the editions agree, by every call. */
+static void known(const char *word, int limit, const char *primary, const char *alternate, uint64_t visits) {
+    known_in(PLAIN, word, limit, primary, alternate, visits);
+    known_in(1, word, limit, primary, alternate, visits);
+    known_in(2, word, limit, primary, alternate, visits);
+}
+
+static void refused_in(uint64_t edition, const void *word, size_t length, size_t primary, size_t alternate, uint64_t number,
+                       uint64_t place) {
     struct lent lent;
     uint64_t answer[SIMMERQUILT_ANSWER_COUNT];
-    memset(lent.bytes, HELD, BOTH);
-    simmerquilt_encode(word, length, primary_of(&lent), primary, alternate_of(&lent), alternate, false, 0, answer);
+    encode(edition, word, length, &lent, primary, alternate, false, 0, answer);
     expect(answered(answer, number, place, 0, 0, 0), "refusal", word);
     expect(holds(&lent, "", ""), "buffers under a refusal", word);
+}
+
+/* By every call; an edition that is not known is told before it. */
+static void refused(const void *word, size_t length, size_t primary, size_t alternate, uint64_t number, uint64_t place) {
+    static const uint64_t unknown[] = {0, 3, 258, UINT64_C(0x100000001), UINT64_C(0x100000002), UINT64_MAX};
+    size_t at;
+    refused_in(PLAIN, word, length, primary, alternate, number, place);
+    refused_in(1, word, length, primary, alternate, number, place);
+    refused_in(2, word, length, primary, alternate, number, place);
+    for (at = 0; at < sizeof unknown / sizeof *unknown; at++) {
+        refused_in(unknown[at], word, length, primary, alternate, SIMMERQUILT_UNKNOWN, 0);
+    }
 }
 
 static void equal(const char *first, const char *second, bool alternate, uint64_t number, uint64_t which, uint64_t place,
@@ -83,8 +115,19 @@ static void known_words(void) {
     known("Rogier", 3, "RJ", "RJR", 5);
     known("Villa", 2, "FL", "F", 4);
     known("artois", 3, "ART", "ART", 3);
-    known("Van Chi", -1, "FNX", "FNK", 6);
     known(" \t Saj\r\n", -1, "SJ", "S ", 3);
+    known("Vanchi", -1, "FNX", "FNK", 5);
+}
+
+static void editions(void) {
+    known_in(PLAIN, "Van Chi", -1, "FNX", "FNK", 6);
+    known_in(1, "Van Chi", -1, "FNX", "FNK", 6);
+    known_in(2, "Van Chi", -1, "FNK", "FNK", 6);
+    known_in(1, "\tvon CHI ", 3, "FNX", "FNK", 5);
+    known_in(2, "\tvon CHI ", 3, "FNK", "FNK", 5);
+    /* With nothing wrong but the edition. */
+    refused_in(3, "Van Chi", 7, ROOM, ROOM, SIMMERQUILT_UNKNOWN, 0);
+    refused_in(0, "Van Chi", 7, ROOM, ROOM, SIMMERQUILT_UNKNOWN, 0);
 }
 
 static void refusals(void) {
@@ -113,10 +156,15 @@ static void nothing_lent(void) {
     uint64_t answer[SIMMERQUILT_ANSWER_COUNT];
     simmerquilt_encode(NULL, 0, NULL, 0, NULL, 0, false, 0, answer);
     expect(answered(answer, SIMMERQUILT_ACCEPTED, 0, 0, 0, 0), "nothing lent", "");
+    simmerquilt_encode_in(2, NULL, 0, NULL, 0, NULL, 0, false, 0, answer);
+    expect(answered(answer, SIMMERQUILT_ACCEPTED, 0, 0, 0, 0), "nothing lent", "edition 2");
+    simmerquilt_encode_in(3, NULL, 0, NULL, 0, NULL, 0, false, 0, answer);
+    expect(answered(answer, SIMMERQUILT_UNKNOWN, 0, 0, 0, 0), "nothing lent", "edition 3");
 }
 
-/* A book of two records under limit 4, and where its parts end. */
-#define HEADER "\x01\x01\x05"
+/* A new book of two records under limit 4, and where its parts end; and the header of one that was stored under edition 1. */
+#define HEADER "\x01\x02\x05"
+#define OLD_HEADER "\x01\x01\x05"
 #define FIRST "\x07\x06jumped\x04JMPT\x04" "AMPT"
 #define SECOND "\xac\x02\x03Saj\x02SJ\x02S "
 enum { HEADER_END = 3, FIRST_END = 21, SECOND_END = 33, BOOK_ROOM = 48 };
@@ -166,9 +214,9 @@ static void books_started(void) {
     start(room, BOOK_ROOM, true, SIMMERQUILT_DEFAULT_LIMIT, SIMMERQUILT_ACCEPTED, HEADER_END);
     expect(room_holds(room, HEADER, HEADER_END), "room", "a book at 4");
     start(room, BOOK_ROOM, false, 9, SIMMERQUILT_ACCEPTED, HEADER_END);
-    expect(room_holds(room, "\x01\x01\x00", HEADER_END), "room", "a book without a limit");
+    expect(room_holds(room, "\x01\x02\x00", HEADER_END), "room", "a book without a limit");
     start(room, SIMMERQUILT_HEADER_ROOM, true, SIMMERQUILT_NUMBER_END - 2, SIMMERQUILT_ACCEPTED, SIMMERQUILT_HEADER_ROOM);
-    expect(room_holds(room, "\x01\x01\xff\xff\xff\x7f", SIMMERQUILT_HEADER_ROOM), "room", "a book at the largest limit");
+    expect(room_holds(room, "\x01\x02\xff\xff\xff\x7f", SIMMERQUILT_HEADER_ROOM), "room", "a book at the largest limit");
     start(room, 0, true, SIMMERQUILT_NUMBER_END - 1, SIMMERQUILT_BAD_NUMBER, 0);
     start(room, BOOK_ROOM, true, UINT64_MAX, SIMMERQUILT_BAD_NUMBER, 0);
     start(room, HEADER_END - 1, true, 4, SIMMERQUILT_ROOM_SHORT, 0);
@@ -195,7 +243,8 @@ static void books_added_to(void) {
 
     start(room, BOOK_ROOM, true, 4, SIMMERQUILT_ACCEPTED, HEADER_END);
     append(room, BOOK_ROOM, SIMMERQUILT_EDITION, HEADER_END, 0, 7, "jumped", SIMMERQUILT_ACCEPTED, FIRST_END, 8);
-    append(room, 0, 2, FIRST_END, 8, 7, longest, SIMMERQUILT_UNKNOWN, 0, 0);
+    append(room, 0, 0, FIRST_END, 8, 7, longest, SIMMERQUILT_UNKNOWN, 0, 0);
+    append(room, 0, 3, FIRST_END, 8, 7, longest, SIMMERQUILT_UNKNOWN, 0, 0);
     append(room, FIRST_END - 1, SIMMERQUILT_EDITION, FIRST_END, 8, 7, longest, SIMMERQUILT_CUT_SHORT, 0, 0);
     append(room, FIRST_END, SIMMERQUILT_EDITION, FIRST_END, 8, 7, "Saj", SIMMERQUILT_NOT_RISING, 0, 0);
     append(room, SECOND_END - 1, SIMMERQUILT_EDITION, FIRST_END, 8, 300, "Saj", SIMMERQUILT_ROOM_SHORT, 0, 0);
@@ -204,17 +253,45 @@ static void books_added_to(void) {
     expect(room_holds(room, HEADER FIRST SECOND, SECOND_END), "room", "two records appended");
 }
 
-static void whole(const char *book, size_t length, uint64_t number, uint64_t records, uint64_t floor) {
+/* A record whose codes tell by which edition they were made. */
+#define VAN_CHI "\x0a\x07Van Chi\x03"
+enum { VAN_CHI_END = HEADER_END + 1 + 8 + 4 + 4 };
+
+/* Adds it to a book without records in both ways. */
+static void van_chi(const char *header, uint32_t edition, const char *book) {
+    uint8_t room[BOOK_ROOM];
+    memset(room, HELD, BOOK_ROOM);
+    memcpy(room, header, HEADER_END);
+    add(room, BOOK_ROOM, HEADER_END, 10, "Van Chi", SIMMERQUILT_ACCEPTED, VAN_CHI_END);
+    expect(room_holds(room, book, VAN_CHI_END), "added", book);
+    memset(room + HEADER_END, HELD, BOOK_ROOM - HEADER_END);
+    append(room, BOOK_ROOM, edition, HEADER_END, 0, 10, "Van Chi", SIMMERQUILT_ACCEPTED, VAN_CHI_END, 11);
+    expect(room_holds(room, book, VAN_CHI_END), "appended", book);
+}
+
+static void books_of_editions(void) {
+    uint8_t room[BOOK_ROOM];
+    start(room, BOOK_ROOM, true, 4, SIMMERQUILT_ACCEPTED, HEADER_END);
+    expect(room[1] == SIMMERQUILT_EDITION && SIMMERQUILT_EDITION == 2, "edition", "a new book");
+    van_chi(HEADER, 2, HEADER VAN_CHI "FNK\x03" "FNK");
+    van_chi(OLD_HEADER, 1, OLD_HEADER VAN_CHI "FNX\x03" "FNK");
+}
+
+static void whole_in(uint64_t edition, const char *book, size_t length, uint64_t number, uint64_t records, uint64_t floor) {
     bool good = number == SIMMERQUILT_ACCEPTED;
-    uint64_t expected[SIMMERQUILT_READ_COUNT] = {number, good, good, good ? 5 : 0, records, floor};
+    uint64_t expected[SIMMERQUILT_READ_COUNT] = {number, good, good ? edition : 0, good ? 5 : 0, records, floor};
     uint64_t answer[SIMMERQUILT_READ_COUNT];
     simmerquilt_book_read(bytes(book), length, answer);
     expect(gives(answer, expected, SIMMERQUILT_READ_COUNT), "read", book);
 }
 
-static void opened(const char *book, size_t length, uint64_t number) {
+static void whole(const char *book, size_t length, uint64_t number, uint64_t records, uint64_t floor) {
+    whole_in(SIMMERQUILT_EDITION, book, length, number, records, floor);
+}
+
+static void opened(uint64_t edition, const char *book, size_t length, uint64_t number) {
     bool good = number == SIMMERQUILT_ACCEPTED;
-    uint64_t expected[SIMMERQUILT_OPEN_COUNT] = {number, good, good, good ? 5 : 0, good ? HEADER_END : 0, 0};
+    uint64_t expected[SIMMERQUILT_OPEN_COUNT] = {number, good, good ? edition : 0, good ? 5 : 0, good ? HEADER_END : 0, 0};
     uint64_t answer[SIMMERQUILT_OPEN_COUNT];
     simmerquilt_book_open(bytes(book), length, answer);
     expect(gives(answer, expected, SIMMERQUILT_OPEN_COUNT), "open", book);
@@ -239,10 +316,16 @@ static void books_read(void) {
     whole(HEADER "\x07\x81\x08", 6, SIMMERQUILT_TOO_LONG, 0, 0);
     whole(HEADER "\x07\x09\x80", 6, SIMMERQUILT_NOT_ASCII, 0, 0);
 
-    opened(HEADER FIRST, FIRST_END, SIMMERQUILT_ACCEPTED);
-    opened("\x02", 1, SIMMERQUILT_UNKNOWN);
-    opened("\x01\x81\x00", 3, SIMMERQUILT_BAD_NUMBER);
-    opened("\x01\x01", 2, SIMMERQUILT_CUT_SHORT);
+    whole_in(1, OLD_HEADER FIRST SECOND, SECOND_END, SIMMERQUILT_ACCEPTED, 2, 301);
+    whole("\x01\x03\x05", HEADER_END, SIMMERQUILT_UNKNOWN, 0, 0);
+
+    opened(2, HEADER FIRST, FIRST_END, SIMMERQUILT_ACCEPTED);
+    opened(1, OLD_HEADER FIRST, FIRST_END, SIMMERQUILT_ACCEPTED);
+    opened(2, "\x02", 1, SIMMERQUILT_UNKNOWN);
+    opened(2, "\x01\x00", 2, SIMMERQUILT_UNKNOWN);
+    opened(2, "\x01\x03", 2, SIMMERQUILT_UNKNOWN);
+    opened(2, "\x01\x81\x00", 3, SIMMERQUILT_BAD_NUMBER);
+    opened(2, "\x01\x02", 2, SIMMERQUILT_CUT_SHORT);
 
     next(SECOND_END, HEADER_END, 0, first);
     next(SECOND_END, FIRST_END, 8, second);
@@ -272,7 +355,7 @@ static void no_book_lent(void) {
 }
 
 /* A book of two records under limit 6, to be joined with the one above: 7 meets 9. */
-#define OTHER "\x01\x01\x07" "\x05\x05Weser\x03" "ASR\x03" "FSR" "\x09\x07Jumpton\x05JMPTN\x05" "AMPTN"
+#define OTHER "\x01\x02\x07" "\x05\x05Weser\x03" "ASR\x03" "FSR" "\x09\x07Jumpton\x05JMPTN\x05" "AMPTN"
 enum { OTHER_END = 39, SCRATCH = 3 * 2 + 8 * 2 + 1, PAIRS = 2 };
 
 /* What is lent to a join, with words and numbers behind what it needs. */
@@ -338,8 +421,36 @@ static void books_joined(void) {
     count(OTHER, OTHER_END, SCRATCH, UINT64_MAX, SIMMERQUILT_ACCEPTED, 1, "two books");
     count(OTHER, OTHER_END, SCRATCH, 0, SIMMERQUILT_ACCEPTED, 0, "at most none");
     count(OTHER, OTHER_END, SCRATCH - 1, UINT64_MAX, SIMMERQUILT_ROOM_SHORT, 0, "scratch too short");
-    count("\x01\x02", 2, SCRATCH, UINT64_MAX, SIMMERQUILT_UNKNOWN, 0, "no such edition");
+    count("\x01\x03", 2, SCRATCH, UINT64_MAX, SIMMERQUILT_UNKNOWN, 0, "no such edition");
+    count(OLD_HEADER FIRST, FIRST_END, SCRATCH, UINT64_MAX, SIMMERQUILT_EDITIONS_DIFFER, 0, "another edition");
+    count(OLD_HEADER FIRST, FIRST_END, 0, UINT64_MAX, SIMMERQUILT_EDITIONS_DIFFER, 0, "another edition and no scratch");
+    count(OLD_HEADER FIRST, FIRST_END - 1, 0, UINT64_MAX, SIMMERQUILT_CUT_SHORT, 0, "another edition, cut short");
     count(HEADER FIRST SECOND, SECOND_END, SCRATCH, UINT64_MAX, SIMMERQUILT_ACCEPTED, 2, "a book with itself");
+}
+
+/* Joins two books of the same records. */
+static void join_of(const char *first, const char *second, size_t scratch, uint64_t number, const char *what) {
+    static const uint32_t pairs[] = {7, 7, 300, 300};
+    bool accepted = number == SIMMERQUILT_ACCEPTED;
+    uint64_t expected[SIMMERQUILT_JOIN_COUNT] = {number, accepted ? 2 : 0};
+    uint64_t answer[SIMMERQUILT_JOIN_COUNT];
+    struct joined lent;
+    hold(&lent);
+    simmerquilt_join(bytes(first), SECOND_END, bytes(second), SECOND_END, false, lent.scratch, scratch, lent.pairs, PAIRS + 3,
+                     answer);
+    expect(gives(answer, expected, SIMMERQUILT_JOIN_COUNT), "join", what);
+    expect(left(&lent, accepted, pairs, accepted ? 2 : 0), "scratch and pairs", what);
+}
+
+/* Different editions are refused before the scratch is looked at. */
+static void books_of_editions_joined(void) {
+    static const char *const old = OLD_HEADER FIRST SECOND, *const new = HEADER FIRST SECOND;
+    join_of(new, new, SCRATCH, SIMMERQUILT_ACCEPTED, "two new books");
+    join_of(old, old, SCRATCH, SIMMERQUILT_ACCEPTED, "two old books");
+    join_of(old, old, 0, SIMMERQUILT_ROOM_SHORT, "two old books and no scratch");
+    join_of(old, new, SCRATCH, SIMMERQUILT_EDITIONS_DIFFER, "an old and a new book");
+    join_of(new, old, SCRATCH, SIMMERQUILT_EDITIONS_DIFFER, "a new and an old book");
+    join_of(new, old, 0, SIMMERQUILT_EDITIONS_DIFFER, "a new and an old book and no scratch");
 }
 
 static void no_join_lent(void) {
@@ -358,14 +469,17 @@ static void no_join_lent(void) {
 
 int main(void) {
     known_words();
+    editions();
     refusals();
     questions();
     nothing_lent();
     books_started();
     books_added_to();
+    books_of_editions();
     books_read();
     no_book_lent();
     books_joined();
+    books_of_editions_joined();
     no_join_lent();
     return failures != 0;
 }

@@ -217,12 +217,12 @@ fn grown(list: &List) -> Book {
     book
 }
 
-/// By the plain writer, with the unchanged Rust's codes.
+/// By the plain writer, with the codes of the Rust's copy that reads as edition 2 does, since a new book carries that one.
 fn written(oracle: &Oracle, list: &List) -> Vec<u8> {
     let mut writer = Writer::new(Some(LIMIT as u64)).expect("a small limit");
     for (station, name) in list {
         let codes = |_: &[u8], _| {
-            let codes = oracle.codes(name, Some(LIMIT));
+            let (codes, _) = oracle.edition2(name, Some(LIMIT));
             (codes.primary, codes.alternate)
         };
         writer.push(*station, name.as_bytes(), codes).expect("a good record");

@@ -46,9 +46,10 @@ pub fn section(rows: &Rows) -> String {
     format!(
         "## The station key book
 
-Nanoseconds a record, in books of gauge names under limit {LIMIT}, beside a plain reader and writer in Rust (host/plain), whose codes \
-are the crate's. All take turns in one run; a number is the median of {ROUNDS} rounds, of {SLOW_ROUNDS} for adding 10,000 records. A ratio \
-is that of the plain one's time to the library's.
+Nanoseconds a record, in new books, which carry edition 2, of gauge names under limit {LIMIT}, beside a plain reader and writer in Rust \
+(host/plain), whose codes are those of the crate's copy that reads as edition 2 does and counts its visits. All take turns in one \
+run; a number is the median of {ROUNDS} rounds, of {SLOW_ROUNDS} for adding 10,000 records. A ratio is that of the plain one's time to \
+the library's.
 
 Reading a whole book (read), and going through its records one by one (cursor):
 

@@ -119,7 +119,7 @@ fn lists(setting: &Setting, records: usize) -> [Vec<String>; 2] {
     })
 }
 
-/// A book of names under rising stations.
+/// A new book of names under rising stations.
 fn book(limit: Option<u64>, names: &[String], rng: &mut Rng) -> Book {
     let mut book = Book::new(limit).expect("a small limit");
     let mut station = 0;

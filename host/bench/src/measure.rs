@@ -1,5 +1,5 @@
 use oracle::Oracle;
-use simmerquilt::{encode_into, DoubleMetaphone, CODE_ROOM};
+use simmerquilt::{encode_into, encode_into_in, Answer, DoubleMetaphone, Edition, CODE_ROOM};
 use std::hint::black_box;
 use std::time::Instant;
 
@@ -20,37 +20,44 @@ pub struct Row {
     pub rust: f64,
     pub port: f64,
     pub wrapper: f64,
+    /// The port on lent buffers by edition 2; the others are of edition 1.
+    pub edition2: f64,
     /// The median of the rounds' ratios of port to crate.
     pub ratio: f64,
     pub wrapper_ratio: f64,
+    /// That of edition 2 to edition 1, both by the port.
+    pub edition2_ratio: f64,
 }
 
-/// Times the crate, the port on lent buffers and the wrapper that makes strings. Each round is a further stretch of the list, the
-/// same for all three, and another of them goes first.
+/// Times the crate, the port on lent buffers, the wrapper that makes strings, and the port by edition 2. Each round is a further stretch
+/// of the list, the same for all four, and another of them goes first.
 pub fn measure(oracle: &Oracle, list: &str, words: &[String], limit: Option<usize>) -> Row {
     same_codes(oracle, words, limit);
     let rust = |words: &[String]| oracle.pass(words, limit);
     let port = |words: &[String]| port_pass(words, limit);
     let wrapper = |words: &[String]| wrapper_pass(words, limit);
-    let passes: [Pass; 3] = [&rust, &port, &wrapper];
+    let edition2 = |words: &[String]| edition2_pass(words, limit);
+    let passes: [Pass; 4] = [&rust, &port, &wrapper, &edition2];
 
     let stretch = ((SECONDS * rate(&rust, words)) as usize).clamp(1, words.len());
-    let mut rates = [(); 3].map(|_| Vec::with_capacity(ROUNDS));
+    let mut rates = [(); 4].map(|_| Vec::with_capacity(ROUNDS));
     for (round, words) in words.chunks_exact(stretch).cycle().take(ROUNDS).enumerate() {
-        for turn in 0..3 {
-            let which = (round + turn) % 3;
+        for turn in 0..4 {
+            let which = (round + turn) % 4;
             rates[which].push(rate(passes[which], words));
         }
     }
-    let [rust, port, wrapper] = rates;
+    let [rust, port, wrapper, edition2] = rates;
     Row {
         list: list.to_string(),
         limit,
         ratio: median(ratios(&port, &rust)),
         wrapper_ratio: median(ratios(&wrapper, &rust)),
+        edition2_ratio: median(ratios(&edition2, &port)),
         rust: median(rust),
         port: median(port),
         wrapper: median(wrapper),
+        edition2: median(edition2),
     }
 }
 
@@ -72,10 +79,18 @@ pub fn median(mut numbers: Vec<f64>) -> f64 {
 }
 
 fn port_pass(words: &[String], limit: Option<usize>) {
+    lent_pass(words, limit, encode_into);
+}
+
+fn edition2_pass(words: &[String], limit: Option<usize>) {
+    lent_pass(words, limit, |word, primary, alternate, limit| encode_into_in(2, word, primary, alternate, limit));
+}
+
+fn lent_pass(words: &[String], limit: Option<usize>, encode: impl Fn(&[u8], &mut [u8], &mut [u8], Option<u64>) -> Answer) {
     let (mut primary, mut alternate) = ([0; CODE_ROOM], [0; CODE_ROOM]);
     let limit = limit.map(|limit| limit as u64);
     for word in words {
-        black_box(encode_into(black_box(word.as_bytes()), &mut primary, &mut alternate, limit));
+        black_box(encode(black_box(word.as_bytes()), &mut primary, &mut alternate, limit));
         black_box((&primary, &alternate));
     }
 }
@@ -87,13 +102,17 @@ fn wrapper_pass(words: &[String], limit: Option<usize>) {
     }
 }
 
-/// Times of different answers could not be compared.
+/// Times of different answers could not be compared. Those of edition 2 are other ones only where it reads otherwise.
 fn same_codes(oracle: &Oracle, words: &[String], limit: Option<usize>) {
     let encoder = DoubleMetaphone::new(limit);
     for word in words {
-        let expected = oracle.codes(word, limit);
-        let got = encoder.double_metaphone(word).map(|got| (got.primary().to_string(), got.alternate().to_string()));
-        assert_eq!(got, Ok((expected.primary, expected.alternate)), "{word:?} under {limit:?}");
+        for (edition, expected) in
+            [(Edition::One, oracle.codes(word, limit)), (Edition::Two, oracle.edition2(word, limit).0)]
+        {
+            let got = encoder.in_edition(edition).double_metaphone(word);
+            let got = got.map(|got| (got.primary().to_string(), got.alternate().to_string()));
+            assert_eq!(got, Ok((expected.primary, expected.alternate)), "{word:?} under {limit:?} by {edition:?}");
+        }
     }
 }
 

@@ -21,11 +21,12 @@ impl Row {
 
 pub fn table(rows: &[Row]) -> String {
     let mut text = String::from(
-        "| words | limit | crate | port | ratio | wanted | wrapper | ratio |\n|---|---|--:|--:|--:|--:|--:|--:|\n",
+        "| words | limit | crate | port | ratio | wanted | wrapper | ratio | edition 2 | to edition 1 |\n\
+         |---|---|--:|--:|--:|--:|--:|--:|--:|--:|\n",
     );
     for row in rows {
         text += &format!(
-            "| {} | {} | {} | {} | {:.2} | {:.1} | {} | {:.2} |\n",
+            "| {} | {} | {} | {} | {:.2} | {:.1} | {} | {:.2} | {} | {:.2} |\n",
             row.list,
             limit(row),
             thousands(row.rust),
@@ -34,6 +35,8 @@ pub fn table(rows: &[Row]) -> String {
             row.target(),
             thousands(row.wrapper),
             row.wrapper_ratio,
+            thousands(row.edition2),
+            row.edition2_ratio,
         );
     }
     text
@@ -85,8 +88,9 @@ pub fn page(rows: &[Row], gauges: &[String], time: &Spent, books: &str, joins: &
         "# Benchmarks
 
 Words a second, in thousands: the unchanged double_metaphone.rs of rphonetic 4.0.0 (crate), the proved port on lent buffers (port), \
-and the port behind the Rust wrapper that returns two strings (wrapper), each with its ratio to the crate. All three make both \
-codes of every word. They take turns over the same words in one run, on one thread; a number is the median of {ROUNDS} rounds.
+and the port behind the Rust wrapper that returns two strings (wrapper), each with its ratio to the crate; these are of edition 1. \
+Then the port on lent buffers by edition 2, which no crate has, with its ratio to the port by edition 1. All four make both codes of \
+every word. They take turns over the same words in one run, on one thread; a number is the median of {ROUNDS} rounds.
 
 The gauge names are {} lines of {:.1} bytes on average. Words of a given length are gauge names with a space between, cut off there.
 

@@ -1,5 +1,5 @@
 //! Words drawn at random.
-use crate::trial::Rooms;
+use crate::trial::{Rooms, UNKNOWN};
 use oracle::LARGEST_LIMIT;
 use words::{Rng, ACCENTED, FRAGMENTS, NAMES};
 
@@ -13,6 +13,8 @@ pub enum Kind {
     Ascii,
     AnyBytes,
     Names,
+    /// Those on which the editions differ, and those that are nearly so.
+    Van,
     Longest,
 }
 
@@ -24,6 +26,7 @@ pub fn word(rng: &mut Rng, kind: Kind, length: usize) -> Vec<u8> {
         Kind::Ascii => (0..length).map(|_| rng.byte() & 127).collect(),
         Kind::AnyBytes => any_bytes(rng, length),
         Kind::Names => damaged(rng),
+        Kind::Van => return van(rng, length),
         Kind::Longest => return (0..length).map(|at| if at == 0 { b'K' } else { b"ZX"[at % 2] }).collect(),
     };
     if rng.once_in(5) {
@@ -86,6 +89,29 @@ fn damaged(rng: &mut Rng) -> Vec<u8> {
     word
 }
 
+/// Begins with VAN or VON and a space, in any case and behind blanks now and then, and has a CH behind it; now and then a byte of this is
+/// another.
+fn van(rng: &mut Rng, length: usize) -> Vec<u8> {
+    let mut word = rng.pick(&["VAN ", "VON "]).as_bytes().to_vec();
+    let behind = length.saturating_sub(6);
+    let before = rng.below(behind + 1).min(rng.below(8));
+    word.extend(fragments(rng, before));
+    word.extend(b"CH");
+    word.extend(fragments(rng, behind - before));
+    for byte in &mut word {
+        *byte ^= 32 * u8::from(byte.is_ascii_alphabetic() && rng.once_in(2));
+    }
+    if rng.once_in(6) {
+        let at = rng.below(6);
+        word[at] = rng.byte();
+    }
+    if rng.once_in(6) {
+        word.splice(..0, [b' ', b'\t', 0x1c][..1 + rng.below(3)].iter().copied());
+    }
+    word.truncate(length);
+    word
+}
+
 /// Puts blank bytes, or bytes that are nearly blank, over a few at either end.
 fn blank_ends(rng: &mut Rng, word: &mut [u8]) {
     let (before, behind) = (rng.below(4), rng.below(4));
@@ -124,6 +150,14 @@ pub fn limit(rng: &mut Rng, length: usize) -> Option<u64> {
         9 => Some(LARGEST_LIMIT as u64),
         10 => Some(rng.below(LARGEST_LIMIT + 1) as u64),
         _ => Some(rng.number()),
+    }
+}
+
+/// A number that is no edition.
+pub fn unknown(rng: &mut Rng) -> u64 {
+    match rng.below(UNKNOWN.len() + 1) {
+        at if at < UNKNOWN.len() => UNKNOWN[at],
+        _ => rng.number().max(3),
     }
 }
 

@@ -1,7 +1,7 @@
 //! What is compared, cut into jobs that threads take in turn. A job draws from its own stream of the seed, so what is compared
 //! does not hang on the number of threads.
 use crate::draw::{self, Kind};
-use crate::trial::{Rooms, Trial};
+use crate::trial::{Rooms, Trial, UNKNOWN};
 use simmerquilt::WORD_LIMIT;
 use words::Rng;
 
@@ -39,11 +39,13 @@ fn drawn(stream: u64) -> Job {
         2 => Job::Sweep { kind: Kind::Ascii, stream },
         3 => Job::Sweep { kind: Kind::AnyBytes, stream },
         4 => Job::Sweep { kind: Kind::Longest, stream },
-        5..=8 => Job::Short { kind: Kind::Letters, stream },
+        5 => Job::Sweep { kind: Kind::Van, stream },
+        6..=8 => Job::Short { kind: Kind::Letters, stream },
         9..=11 => Job::Short { kind: Kind::Ascii, stream },
         12..=13 => Job::Short { kind: Kind::AnyBytes, stream },
         14..=17 => Job::Short { kind: Kind::Names, stream },
         18..=23 => Job::Pairs { stream },
+        24..=29 => Job::Short { kind: Kind::Van, stream },
         _ => Job::Short { kind: Kind::Fragments, stream },
     }
 }
@@ -104,9 +106,9 @@ impl Job {
     pub fn run<E>(self, seed: u64, mut check: impl FnMut(Trial) -> Result<(), E>) -> Result<(), E> {
         match self {
             Job::Every { length, first, limits, rooms } => every_word(length, first, |word| {
-                for &limit in limits {
+                for (&limit, unknown) in limits.iter().zip(UNKNOWN.into_iter().cycle()) {
                     for &rooms in rooms {
-                        check(Trial::Encode { word, limit, rooms })?;
+                        check(Trial::Encode { word, limit, rooms, unknown })?;
                     }
                 }
                 Ok(())
@@ -151,14 +153,16 @@ fn check_drawn<E>(
     check: &mut impl FnMut(Trial) -> Result<(), E>,
 ) -> Result<(), E> {
     let word = draw::word(rng, kind, length);
-    let (limit, rooms) = (draw::limit(rng, word.len()), draw::rooms(rng));
-    check(Trial::Encode { word: &word, limit, rooms })
+    let (limit, rooms, unknown) = (draw::limit(rng, word.len()), draw::rooms(rng), draw::unknown(rng));
+    check(Trial::Encode { word: &word, limit, rooms, unknown })
 }
 
 fn check_pair<E>(rng: &mut Rng, check: &mut impl FnMut(Trial) -> Result<(), E>) -> Result<(), E> {
     let kind = match rng.below(16) {
         0 => Kind::AnyBytes,
         1..=4 => Kind::Names,
+        // The question is edition 1's.
+        5..=6 => Kind::Van,
         _ => Kind::Fragments,
     };
     let length = if rng.once_in(64) { WORD_LIMIT - 2 + rng.below(5) } else { rng.below(SHORT) };

@@ -1,5 +1,7 @@
 //! Holds the proved port against the unchanged Rust: number, place, both lengths, visits and every byte of both buffers and of
-//! the guards around them. Exits with 1 at a difference, shown on its smallest input, and with 2 if it is called wrongly.
+//! the guards around them. Edition 2, which no crate has, is held in the same way against the copy of the Rust that reads as it does, on
+//! the same words, and an edition that is not known against its refusal. Exits with 1 at a difference, shown on its smallest input, and
+//! with 2 if it is called wrongly.
 mod draw;
 mod jobs;
 mod lent;
@@ -73,6 +75,10 @@ fn report(outcome: &Outcome) -> ExitCode {
         grouped(outcome.pairs)
     );
     println!("compare: accepted {accepted}; refused by 1 {long}, by 2 {high}, by 3 {primary}, by 4 {alternate}");
+    println!(
+        "compare: each word also by edition 2, which differs from edition 1 on {}, and by an edition that is not known",
+        grouped(outcome.apart)
+    );
     let comparisons = grouped(outcome.comparisons());
     match &outcome.difference {
         None => {

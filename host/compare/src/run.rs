@@ -17,6 +17,8 @@ pub struct Outcome {
     pub pairs: u64,
     /// By the number that was expected.
     pub numbers: [u64; 5],
+    /// Encoded words on which the editions differ.
+    pub apart: u64,
     pub difference: Option<(usize, String)>,
 }
 
@@ -37,6 +39,7 @@ impl Outcome {
         self.every += other.every;
         self.drawn += other.drawn;
         self.pairs += other.pairs;
+        self.apart += other.apart;
         for (sum, number) in self.numbers.iter_mut().zip(other.numbers) {
             *sum += number;
         }
@@ -93,6 +96,7 @@ impl<P: Port> Run<'_, P> {
             }
         }
         outcome.numbers = checker.numbers;
+        outcome.apart = checker.apart;
         outcome
     }
 }

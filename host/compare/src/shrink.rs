@@ -5,9 +5,9 @@ use crate::trial::{Checker, Trial};
 /// What a difference looks like on its smallest input.
 pub fn report<P: Port>(checker: &mut Checker<P>, trial: Trial) -> String {
     match trial {
-        Trial::Encode { word, limit, rooms } => {
-            let word = smallest(word, |word| checker.check(Trial::Encode { word, limit, rooms }).is_err());
-            shown(checker, Trial::Encode { word: &word, limit, rooms })
+        Trial::Encode { word, limit, rooms, unknown } => {
+            let word = smallest(word, |word| checker.check(Trial::Encode { word, limit, rooms, unknown }).is_err());
+            shown(checker, Trial::Encode { word: &word, limit, rooms, unknown })
         }
         Trial::Equal { first, second, limit, alternate } => {
             let first = smallest(first, |first| checker.check(Trial::Equal { first, second, limit, alternate }).is_err());

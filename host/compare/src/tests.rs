@@ -19,6 +19,8 @@ fn the_library_agrees_with_the_rust() {
     let Some(outcome) = outcome(&Library) else { return };
     assert_eq!(outcome.difference, None);
     assert!(outcome.numbers.iter().all(|count| *count > 0));
+    // The editions are told apart often enough that a port without edition 2 is found.
+    assert!(outcome.apart > 5_000, "{}", outcome.apart);
 }
 
 /// The library with something done to its answers afterwards.
@@ -36,8 +38,32 @@ where
         self.0(word, (primary, alternate), limit, answer)
     }
 
+    fn encode_in(&self, edition: u64, word: &[u8], primary: &mut [u8], alternate: &mut [u8], limit: Option<u64>) -> Answer {
+        Library.encode_in(edition, word, primary, alternate, limit)
+    }
+
     fn equal(&self, first: &[u8], second: &[u8], limit: Option<u64>, alternate: bool) -> Verdict {
         self.1(first, second, Library.equal(first, second, limit, alternate))
+    }
+}
+
+/// The library but for its answers by an edition.
+struct FaultyIn<F>(F);
+
+impl<F> Port for FaultyIn<F>
+where
+    F: Fn(u64, &[u8], Buffers, Option<u64>) -> Answer + Sync,
+{
+    fn encode(&self, word: &[u8], primary: &mut [u8], alternate: &mut [u8], limit: Option<u64>) -> Answer {
+        Library.encode(word, primary, alternate, limit)
+    }
+
+    fn encode_in(&self, edition: u64, word: &[u8], primary: &mut [u8], alternate: &mut [u8], limit: Option<u64>) -> Answer {
+        self.0(edition, word, (primary, alternate), limit)
+    }
+
+    fn equal(&self, first: &[u8], second: &[u8], limit: Option<u64>, alternate: bool) -> Verdict {
+        Library.equal(first, second, limit, alternate)
     }
 }
 
@@ -161,6 +187,127 @@ fn finds_unequal_empty_codes() {
         verdict
     };
     found(Faulty(|_: &[u8], _: Buffers, _, answer| answer, fault), "equal b\"\" and b\"\"");
+}
+
+/// Asserts that the fault is found by an edition, and that the report opens with this.
+fn by_edition(fault: impl Fn(u64, &[u8], Buffers, Option<u64>) -> Answer + Sync, opening: &str, edition: u64) {
+    let Some(outcome) = outcome(&FaultyIn(fault)) else { return };
+    let (_, report) = outcome.difference.expect("the fault is found");
+    assert!(report.starts_with(opening), "{report}");
+    assert!(report.ends_with(&format!(" by edition {edition}")), "{report}");
+}
+
+/// The library's answer by this edition, whatever edition was asked for.
+fn answered(edition: u64, word: &[u8], (primary, alternate): Buffers, limit: Option<u64>) -> Answer {
+    Library.encode_in(edition, word, primary, alternate, limit)
+}
+
+#[test]
+fn finds_edition_2_answered_as_1() {
+    let fault = |edition: u64, word: &[u8], buffers: Buffers, limit| {
+        answered(if edition == 2 { 1 } else { edition }, word, buffers, limit)
+    };
+    by_edition(fault, "encode b\"van ch\"", 2);
+}
+
+#[test]
+fn finds_edition_1_answered_as_2() {
+    let fault = |edition: u64, word: &[u8], buffers: Buffers, limit| {
+        answered(if edition == 1 { 2 } else { edition }, word, buffers, limit)
+    };
+    by_edition(fault, "encode b\"van ch\"", 1);
+}
+
+#[test]
+fn finds_edition_3_accepted() {
+    let fault = |edition: u64, word: &[u8], buffers: Buffers, limit| {
+        answered(if edition == 3 { 2 } else { edition }, word, buffers, limit)
+    };
+    by_edition(fault, "encode b\"\"", 3);
+}
+
+#[test]
+fn finds_an_edition_read_in_32_bits() {
+    let fault = |edition: u64, word: &[u8], buffers: Buffers, limit| answered(edition as u32 as u64, word, buffers, limit);
+    by_edition(fault, "encode b\"\"", (1 << 32) + 1);
+}
+
+/// Gives 7 behind this refusal of the word or the buffers.
+fn seven_behind(number: u64, edition: u64, word: &[u8], (primary, alternate): Buffers, limit: Option<u64>) -> Answer {
+    let (mut other, mut another) = (vec![0; primary.len()], vec![0; alternate.len()]);
+    let first = Library.encode(word, &mut other, &mut another, limit);
+    if first.number == number {
+        return first;
+    }
+    answered(edition, word, (primary, alternate), limit)
+}
+
+#[test]
+fn finds_7_given_after_each_other_refusal() {
+    for number in 1..=4 {
+        let fault = |edition: u64, word: &[u8], buffers: Buffers, limit| seven_behind(number, edition, word, buffers, limit);
+        let Some(outcome) = outcome(&FaultyIn(fault)) else { return };
+        let (_, report) = outcome.difference.expect("the fault is found");
+        assert!(report.contains("expected Answer { number: 7, "), "{report}");
+        assert!(report.contains(&format!("got      Answer {{ number: {number}, ")), "{report}");
+    }
+}
+
+#[test]
+fn finds_a_buffer_changed_by_7() {
+    let fault = |edition: u64, word: &[u8], (primary, alternate): Buffers, limit| {
+        let answer = answered(edition, word, (primary, alternate), limit);
+        if answer.number == 7 && !alternate.is_empty() {
+            alternate[0] = 0;
+        }
+        answer
+    };
+    by_edition(fault, "encode b\"", 3);
+}
+
+#[test]
+fn finds_a_visit_too_many_by_edition_2() {
+    let fault = |edition: u64, word: &[u8], buffers: Buffers, limit| {
+        let mut answer = answered(edition, word, buffers, limit);
+        answer.visits += usize::from(edition == 2 && word.len() > 2 && answer.visits > 2);
+        answer
+    };
+    by_edition(fault, "encode b\"", 2);
+}
+
+/// The library but for the equality question, which it answers by edition 2.
+struct EqualBy2;
+
+impl Port for EqualBy2 {
+    fn encode(&self, word: &[u8], primary: &mut [u8], alternate: &mut [u8], limit: Option<u64>) -> Answer {
+        Library.encode(word, primary, alternate, limit)
+    }
+
+    fn encode_in(&self, edition: u64, word: &[u8], primary: &mut [u8], alternate: &mut [u8], limit: Option<u64>) -> Answer {
+        Library.encode_in(edition, word, primary, alternate, limit)
+    }
+
+    fn equal(&self, first: &[u8], second: &[u8], limit: Option<u64>, alternate: bool) -> Verdict {
+        let mut verdict = Library.equal(first, second, limit, alternate);
+        if verdict.number == 0 {
+            let [first, second] = [first, second].map(|word| {
+                let (mut codes, mut others) = ([0; CODE_ROOM], [0; CODE_ROOM]);
+                let answer = Library.encode_in(2, word, &mut codes, &mut others, limit);
+                if alternate {
+                    others[..answer.alternate].to_vec()
+                } else {
+                    codes[..answer.primary].to_vec()
+                }
+            });
+            verdict.equal = u64::from(first == second);
+        }
+        verdict
+    }
+}
+
+#[test]
+fn finds_equality_asked_by_edition_2() {
+    found(EqualBy2, "equal b\"");
 }
 
 #[test]

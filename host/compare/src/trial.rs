@@ -1,4 +1,4 @@
-//! One comparison: a call of the port, and what document 01 and the Rust say that it must answer.
+//! One comparison: calls of the port, and what document 01, L4 and the Rust say that they must answer.
 use crate::lent::Lent;
 use crate::port::Port;
 use oracle::{Codes, Oracle, LARGEST_LIMIT};
@@ -31,10 +31,33 @@ impl Rooms {
     }
 }
 
+/// Numbers that are no edition: beside those that are, those that look like them in fewer bits, and the largest.
+pub const UNKNOWN: [u64; 8] = [3, 0, u64::MAX, (1 << 32) + 1, (1 << 32) + 2, 257, 258, 4];
+
+/// Which call encodes a word.
+#[derive(Clone, Copy, Debug, PartialEq, Eq)]
+enum Call {
+    /// The one that takes no edition, and is of edition 1.
+    Plain,
+    /// The one that takes this edition, known or not.
+    In(u64),
+}
+
 #[derive(Clone, Copy, Debug)]
 pub enum Trial<'a> {
-    Encode { word: &'a [u8], limit: Option<u64>, rooms: Rooms },
-    Equal { first: &'a [u8], second: &'a [u8], limit: Option<u64>, alternate: bool },
+    /// By each call: with no edition, by both editions, and by one that is not known.
+    Encode {
+        word: &'a [u8],
+        limit: Option<u64>,
+        rooms: Rooms,
+        unknown: u64,
+    },
+    Equal {
+        first: &'a [u8],
+        second: &'a [u8],
+        limit: Option<u64>,
+        alternate: bool,
+    },
 }
 
 /// What was expected and what was got instead.
@@ -44,73 +67,85 @@ pub struct Difference {
     got: String,
 }
 
+/// What is encoded, on buffers of these lengths.
+#[derive(Clone, Copy)]
+struct Asked<'a> {
+    word: &'a [u8],
+    limit: Option<u64>,
+    primary_room: usize,
+    alternate_room: usize,
+}
+
+/// An answer, and the codes that are in the buffers then.
+type Expected = (Answer, Codes);
+
 /// Holds a port against the Rust, and counts by number what was expected.
 pub struct Checker<'a, P> {
     oracle: Oracle,
     port: &'a P,
     lent: Lent,
     pub numbers: [u64; 5],
+    /// Of the words that were encoded, those on which the editions differ.
+    pub apart: u64,
 }
 
 impl<'a, P: Port> Checker<'a, P> {
     pub fn new(oracle: Oracle, port: &'a P) -> Self {
-        Checker { oracle, port, lent: Lent::new(), numbers: [0; 5] }
+        Checker { oracle, port, lent: Lent::new(), numbers: [0; 5], apart: 0 }
     }
 
     pub fn check(&mut self, trial: Trial) -> Result<(), Difference> {
         match trial {
-            Trial::Encode { word, limit, rooms } => self.check_encode(word, limit, rooms),
+            Trial::Encode { word, limit, rooms, unknown } => self.check_encode(word, limit, rooms, unknown),
             Trial::Equal { first, second, limit, alternate } => self.check_equal(first, second, limit, alternate),
         }
     }
 
-    fn check_encode(&mut self, word: &[u8], limit: Option<u64>, rooms: Rooms) -> Result<(), Difference> {
-        let need = need(word, limit);
-        let (primary_room, alternate_room) = rooms.lengths(need);
-        let (expected, codes) = self.expected(word, limit, need, primary_room, alternate_room)?;
-        self.numbers[expected.number as usize] += 1;
+    fn check_encode(&mut self, word: &[u8], limit: Option<u64>, rooms: Rooms, unknown: u64) -> Result<(), Difference> {
+        let (primary_room, alternate_room) = rooms.lengths(need(word, limit));
+        let asked = Asked { word, limit, primary_room, alternate_room };
+        let [first, second] = match asked.refused() {
+            Some(answer) => [(); 2].map(|_| refused(answer)),
+            None => self.encoded(asked)?,
+        };
+        self.numbers[first.0.number as usize] += 1;
+        self.apart += u64::from(first != second);
 
+        self.check_call(asked, Call::Plain, &first)?;
+        self.check_call(asked, Call::In(1), &first)?;
+        self.check_call(asked, Call::In(2), &second)?;
+        self.check_call(asked, Call::In(unknown), &refused((7, 0)))
+    }
+
+    fn check_call(&mut self, asked: Asked, call: Call, (expected, codes): &Expected) -> Result<(), Difference> {
+        let Asked { word, limit, primary_room, alternate_room } = asked;
         let (primary, alternate) = self.lent.buffers(primary_room, alternate_room);
-        let got = self.port.encode(word, primary, alternate, limit);
-        if got == expected && self.lent.holds(codes.primary.as_bytes(), codes.alternate.as_bytes()) {
+        let got = match call {
+            Call::Plain => self.port.encode(word, primary, alternate, limit),
+            Call::In(edition) => self.port.encode_in(edition, word, primary, alternate, limit),
+        };
+        if got == *expected && self.lent.holds(codes.primary.as_bytes(), codes.alternate.as_bytes()) {
             return Ok(());
         }
         Err(Difference {
             expected: format!("{expected:?}, codes {:?} and {:?}", codes.primary, codes.alternate),
-            got: format!("{got:?}, {}", self.lent.shown()),
+            got: format!("{got:?}, {} {call}", self.lent.shown()),
         })
     }
 
-    /// The answer by document 01's table, with the codes of the unchanged Rust and the visits of its counted copy.
-    fn expected(
-        &self,
-        word: &[u8],
-        limit: Option<u64>,
-        need: usize,
-        primary_room: usize,
-        alternate_room: usize,
-    ) -> Result<(Answer, Codes), Difference> {
-        let refused = |number: u64, place: usize| {
-            let none = Codes { primary: String::new(), alternate: String::new() };
-            Ok((Answer { number, place, primary: 0, alternate: 0, visits: 0 }, none))
-        };
-        let text = match ascii(word) {
-            Ok(text) => text,
-            Err((number, place)) => return refused(number, place),
-        };
-        if primary_room < need {
-            return refused(3, 0);
-        }
-        if alternate_room < need {
-            return refused(4, 0);
-        }
+    /// The answers of both editions to a word that is not refused: the codes of the unchanged Rust and the visits of its counted copy,
+    /// and both by the copy that reads as edition 2 does.
+    fn encoded(&self, Asked { word, limit, .. }: Asked) -> Result<[Expected; 2], Difference> {
+        let text = std::str::from_utf8(word).expect("ASCII is UTF-8");
         let codes = self.oracle.codes(text, rust_limit(limit));
         let (counted, visits) = self.oracle.counted(text, rust_limit(limit));
         if counted != codes {
             return Err(Difference { expected: format!("{codes:?}"), got: format!("{counted:?} by the counted copy") });
         }
-        let (primary, alternate) = (codes.primary.len(), codes.alternate.len());
-        Ok((Answer { number: 0, place: 0, primary, alternate, visits }, codes))
+        Ok([(codes, visits), self.oracle.edition2(text, rust_limit(limit))].map(|(codes, visits)| {
+            let (primary, alternate) = (codes.primary.len(), codes.alternate.len());
+            (Answer { number: 0, place: 0, primary, alternate, visits }, codes)
+        }))
     }
 
     fn check_equal(&mut self, first: &[u8], second: &[u8], limit: Option<u64>, alternate: bool) -> Result<(), Difference> {
@@ -129,6 +164,24 @@ impl<'a, P: Port> Checker<'a, P> {
         }
         Err(Difference { expected: format!("{expected:?}"), got: format!("{got:?}") })
     }
+}
+
+impl Asked<'_> {
+    /// The number and the place of a refusal by document 01's table, which is that of both editions.
+    fn refused(self) -> Option<(u64, usize)> {
+        let need = need(self.word, self.limit);
+        match ascii(self.word) {
+            Err(refused) => Some(refused),
+            Ok(_) if self.primary_room < need => Some((3, 0)),
+            Ok(_) if self.alternate_room < need => Some((4, 0)),
+            Ok(_) => None,
+        }
+    }
+}
+
+fn refused((number, place): (u64, usize)) -> Expected {
+    let none = Codes { primary: String::new(), alternate: String::new() };
+    (Answer { number, place, primary: 0, alternate: 0, visits: 0 }, none)
 }
 
 /// The word as text, or the number of its refusal and the place.
@@ -160,11 +213,20 @@ impl Display for Difference {
     }
 }
 
+impl Display for Call {
+    fn fmt(&self, f: &mut Formatter<'_>) -> fmt::Result {
+        match self {
+            Call::Plain => f.write_str("by the call without an edition"),
+            Call::In(edition) => write!(f, "by edition {edition}"),
+        }
+    }
+}
+
 impl Display for Trial<'_> {
     fn fmt(&self, f: &mut Formatter<'_>) -> fmt::Result {
         let quoted = |word: &[u8]| format!("b\"{}\"", word.escape_ascii());
         match self {
-            Trial::Encode { word, limit, rooms } => {
+            Trial::Encode { word, limit, rooms, .. } => {
                 let (primary, alternate) = rooms.lengths(need(word, *limit));
                 write!(f, "encode {}, limit {limit:?}, buffers of {primary} and {alternate} bytes", quoted(word))
             }

@@ -17,6 +17,10 @@ impl Oracle {
         match *self {}
     }
 
+    pub fn edition2(&self, _word: &str, _limit: Option<usize>) -> (Codes, usize) {
+        match *self {}
+    }
+
     pub fn equal(&self, _first: &str, _second: &str, _limit: Option<usize>, _alternate: bool) -> bool {
         match *self {}
     }

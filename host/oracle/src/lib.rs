@@ -1,6 +1,7 @@
-//! The outside witness of the comparison: src/double_metaphone.rs of rphonetic 4.0.0, compiled as it stands, and a copy of it
-//! that counts its visits. The text is not part of this repository; where it was not at hand at build time,
-//! [`Oracle::at_hand`] answers `None` and every tool says that it did not compare.
+//! The outside witness of the comparison: src/double_metaphone.rs of rphonetic 4.0.0, compiled as it stands, a copy of it that
+//! counts its visits, and a copy of that one with the first test of condition_ch1 read with "VAN " and "VON ". Edition 1 equals the
+//! text; edition 2, which no crate has, is held against the last copy. The text is not part of this repository; where it was not at
+//! hand at build time, [`Oracle::at_hand`] answers `None` and every tool says that it did not compare.
 
 include!(concat!(env!("OUT_DIR"), "/modules.rs"));
 

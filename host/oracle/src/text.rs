@@ -1,4 +1,4 @@
-use crate::{counted, double_metaphone, Codes};
+use crate::{counted, double_metaphone, edition2, Codes};
 use std::cell::Cell;
 use std::hint::black_box;
 
@@ -6,9 +6,15 @@ thread_local! {
     static VISITS: Cell<usize> = const { Cell::new(0) };
 }
 
-/// The counted copy calls this once a visit.
+/// The counted copies call this once a visit.
 pub(crate) fn count_visit() {
     VISITS.with(|visits| visits.set(visits.get() + 1));
+}
+
+fn with_visits(walk: impl FnOnce() -> Codes) -> (Codes, usize) {
+    VISITS.with(|visits| visits.set(0));
+    let codes = walk();
+    (codes, VISITS.with(Cell::get))
 }
 
 /// The Rust text is at hand.
@@ -29,9 +35,18 @@ impl Oracle {
 
     /// Both codes and the visits by the counted copy.
     pub fn counted(&self, word: &str, limit: Option<usize>) -> (Codes, usize) {
-        VISITS.with(|visits| visits.set(0));
-        let result = counted::DoubleMetaphone::new(limit).double_metaphone(word);
-        (Codes { primary: result.primary(), alternate: result.alternate() }, VISITS.with(Cell::get))
+        with_visits(|| {
+            let result = counted::DoubleMetaphone::new(limit).double_metaphone(word);
+            Codes { primary: result.primary(), alternate: result.alternate() }
+        })
+    }
+
+    /// The same by the counted copy that reads the first test of condition_ch1 as edition 2 does.
+    pub fn edition2(&self, word: &str, limit: Option<usize>) -> (Codes, usize) {
+        with_visits(|| {
+            let result = edition2::DoubleMetaphone::new(limit).double_metaphone(word);
+            Codes { primary: result.primary(), alternate: result.alternate() }
+        })
     }
 
     /// The equality question by the unchanged text.

@@ -1,6 +1,7 @@
 //! Station key books in plain Rust, written from the words of document 02, L1, and not from the proved code or its definition: the
-//! outside witness of the proved reader and writer. It knows no encoder; who writes a book passes the codes in. The join of two books is
-//! here too, by comparing each record with each.
+//! outside witness of the proved reader and writer. It knows no encoder; who writes a book passes in what makes the codes, and that is
+//! told the book's header, since the edition and the cut that stand there make them. The join of two books is here too, by comparing each
+//! record with each. The two editions are L4's.
 //!
 //! L1 does not say which of two faults comes first that one byte shows. Here, as in the library, a number's form comes before its value.
 mod join;
@@ -22,7 +23,7 @@ pub const NOT_ASCII: Fault = 2;
 pub const BAD_NUMBER: Fault = 5;
 /// The book ends inside something.
 pub const CUT_SHORT: Fault = 6;
-/// A format or an edition other than 1.
+/// A format other than 1, or an edition that is not of [`EDITIONS`].
 pub const UNKNOWN: Fault = 7;
 /// A station that is not above the one before.
 pub const NOT_RISING: Fault = 8;
@@ -30,6 +31,12 @@ pub const NOT_RISING: Fault = 8;
 pub const ROOM_SHORT: Fault = 9;
 /// Two books of different editions.
 pub const EDITIONS_DIFFER: Fault = 10;
+
+/// The editions of the letter rules that a book may carry.
+pub const EDITIONS: [u32; 2] = [1, 2];
+
+/// The edition of a new book.
+pub const NEW_EDITION: u32 = 2;
 
 /// The longest name.
 pub const NAME_LIMIT: usize = 1024;

@@ -1,4 +1,4 @@
-use crate::{Fault, BAD_NUMBER, CUT_SHORT, NAME_LIMIT, NOT_ASCII, NOT_RISING, TOO_LONG, UNKNOWN};
+use crate::{Fault, BAD_NUMBER, CUT_SHORT, EDITIONS, NAME_LIMIT, NOT_ASCII, NOT_RISING, TOO_LONG, UNKNOWN};
 
 /// What stands in front of the records.
 #[derive(Clone, Copy, Debug, PartialEq, Eq)]
@@ -35,7 +35,8 @@ impl<'a> Reader<'a> {
     /// Reads the header; the records are still to come.
     pub fn open(book: &'a [u8]) -> Result<(Header, Self), Fault> {
         let mut reader = Reader::at(book, 0, None);
-        let header = Header { format: reader.one()?, edition: reader.one()?, cut: reader.number()? };
+        let (format, edition) = (reader.known(&[1])?, reader.known(&EDITIONS)?);
+        let header = Header { format, edition, cut: reader.number()? };
         Ok((header, reader))
     }
 
@@ -74,11 +75,13 @@ impl<'a> Reader<'a> {
         Err(BAD_NUMBER)
     }
 
-    /// Format and edition: only 1 is known.
-    fn one(&mut self) -> Result<u32, Fault> {
-        match self.number()? {
-            1 => Ok(1),
-            _ => Err(UNKNOWN),
+    /// Format and edition: a number that is known.
+    fn known(&mut self, known: &[u32]) -> Result<u32, Fault> {
+        let number = self.number()?;
+        if known.contains(&number) {
+            Ok(number)
+        } else {
+            Err(UNKNOWN)
         }
     }
 

@@ -1,10 +1,10 @@
 //! Books written out byte by byte from document 02's words.
 use super::*;
 
-/// No encoder is needed to tell how a book is laid out.
-fn codes(name: &[u8], limit: Option<u64>) -> (Vec<u8>, Vec<u8>) {
-    let length = limit.map_or(name.len(), |limit| name.len().min(limit as usize));
-    (name[..length].to_ascii_uppercase(), Vec::new())
+/// No encoder is needed to tell how a book is laid out. Under edition 2 there is an alternate code, so that the editions differ.
+fn codes(name: &[u8], header: Header) -> (Vec<u8>, Vec<u8>) {
+    let length = header.limit().map_or(name.len(), |limit| name.len().min(limit as usize));
+    (name[..length].to_ascii_uppercase(), vec![b'0'; header.edition as usize - 1])
 }
 
 fn fault(book: &[u8]) -> Fault {
@@ -29,7 +29,7 @@ fn numbers_are_groups_of_seven_bits() {
 
 #[test]
 fn a_book_is_a_header_and_records() {
-    let mut writer = Writer::new(Some(4)).unwrap();
+    let mut writer = Writer::in_edition(1, Some(4)).unwrap();
     writer.push(7, b"ab", codes).unwrap();
     writer.push(300, b"", codes).unwrap();
     assert_eq!(writer.as_bytes(), b"\x01\x01\x05\x07\x02ab\x02AB\x00\xac\x02\x00\x00\x00");
@@ -41,10 +41,21 @@ fn a_book_is_a_header_and_records() {
 }
 
 #[test]
+fn a_new_book_carries_the_newest_edition() {
+    let mut writer = Writer::new(Some(4)).unwrap();
+    writer.push(7, b"ab", codes).unwrap();
+    assert_eq!(writer.as_bytes(), b"\x01\x02\x05\x07\x02ab\x02AB\x010");
+    assert_eq!(read(writer.as_bytes()).unwrap().0, Header { format: 1, edition: 2, cut: 5 });
+    for edition in [0, 3, u32::MAX] {
+        assert_eq!(Writer::in_edition(edition, Some(u64::MAX)).unwrap_err(), UNKNOWN);
+    }
+}
+
+#[test]
 fn cuts_and_limits() {
-    assert_eq!(Writer::new(None).unwrap().into_bytes(), [1, 1, 0]);
-    assert_eq!(Writer::new(Some(0)).unwrap().into_bytes(), [1, 1, 1]);
-    assert_eq!(Writer::new(Some(NUMBER_END - 2)).unwrap().into_bytes(), [1, 1, 255, 255, 255, 127]);
+    assert_eq!(Writer::new(None).unwrap().into_bytes(), [1, 2, 0]);
+    assert_eq!(Writer::new(Some(0)).unwrap().into_bytes(), [1, 2, 1]);
+    assert_eq!(Writer::new(Some(NUMBER_END - 2)).unwrap().into_bytes(), [1, 2, 255, 255, 255, 127]);
     for limit in [NUMBER_END - 1, NUMBER_END, u64::MAX] {
         assert_eq!(Writer::new(Some(limit)).unwrap_err(), BAD_NUMBER);
     }
@@ -60,6 +71,11 @@ fn each_fault_is_met_at_its_byte() {
         (&[130, 1], 7),
         (&[0, 1, 0], 7),
         (&[1, 0], 7),
+        (&[1, 3], 7),
+        (&[1, 129, 2], 7),
+        (&[1, 130, 0], 5),
+        (&[1, 2], 6),
+        (&[1, 2, 0], 0),
         (&[1, 1, 128], 6),
         (&[1, 1, 128, 0], 5),
         (&[1, 1, 128, 128, 128, 128], 5),
@@ -104,7 +120,14 @@ fn adding_reads_first_and_asks_for_room_last() {
     assert_eq!(add(&room[..8], 3, 7, b"a", codes), Err(9));
     assert_eq!(add(&room, 4, NUMBER_END, b"a", codes), Err(6));
     assert_eq!(add(&room[..3], 4, NUMBER_END, b"a", codes), Err(6));
-    assert_eq!(add(&[1, 2], 4, NUMBER_END, b"a", codes), Err(7));
+    assert_eq!(add(&[1, 3], 4, NUMBER_END, b"a", codes), Err(7));
+}
+
+#[test]
+fn a_book_is_added_to_under_its_own_edition() {
+    let room = [1, 2, 0, 9, 9, 9, 9, 9, 9, 9];
+    assert_eq!(add(&room, 3, 7, b"a", codes), Ok(vec![1, 2, 0, 7, 1, b'a', 1, b'A', 1, b'0']));
+    assert_eq!(add(&room[..9], 3, 7, b"a", codes), Err(9));
 }
 
 /// A book of these stations and codes, both codes alike but for a dot before the alternate one.
@@ -131,7 +154,19 @@ fn a_join_compares_up_to_the_smaller_limit() {
     assert_eq!(join(&coded(None, &[(1, "ABCD")]), &coded(None, &[(1, "ABCDE"), (2, "ABCD")]), false), Ok(vec![(1, 2)]));
     // Under the limit 0 all meet.
     assert_eq!(join(&coded(Some(0), &[(1, "AB"), (2, "")]), &six, false).unwrap().len(), 10);
-    assert_eq!(join(&[1, 1, 5], &six, false), Ok(vec![]));
+    assert_eq!(join(&[1, 2, 5], &six, false), Ok(vec![]));
+}
+
+#[test]
+fn a_join_is_of_one_edition() {
+    let [one, two] = [&[1, 1, 0, 1, 0, 0, 0][..], &[1, 2, 0, 2, 0, 0, 0]];
+    assert_eq!(join(one, one, false), Ok(vec![(1, 1)]));
+    assert_eq!(join(two, two, false), Ok(vec![(2, 2)]));
+    assert_eq!(join(one, two, false), Err(10));
+    assert_eq!(join(two, one, false), Err(10));
+    // Behind any fault of either book.
+    assert_eq!(join(&one[..4], two, false), Err(6));
+    assert_eq!(join(one, &two[..4], false), Err(6));
 }
 
 #[test]

@@ -1,4 +1,7 @@
-use crate::{read, Fault, BAD_NUMBER, CUT_SHORT, NAME_LIMIT, NOT_ASCII, NOT_RISING, NUMBER_END, ROOM_SHORT, TOO_LONG};
+use crate::{
+    read, Fault, Header, BAD_NUMBER, CUT_SHORT, EDITIONS, NAME_LIMIT, NEW_EDITION, NOT_ASCII, NOT_RISING, NUMBER_END,
+};
+use crate::{ROOM_SHORT, TOO_LONG, UNKNOWN};
 
 /// Writes a number in groups of seven bits, low group first, the high bit where more follow.
 pub fn push_number(book: &mut Vec<u8>, mut number: u64) {
@@ -18,30 +21,37 @@ fn push_text(book: &mut Vec<u8>, text: &[u8]) {
 #[derive(Clone, Debug)]
 pub struct Writer {
     book: Vec<u8>,
-    limit: Option<u64>,
+    header: Header,
     before: Option<u32>,
 }
 
 impl Writer {
-    /// A book without records.
+    /// A new book without records.
     pub fn new(limit: Option<u64>) -> Result<Self, Fault> {
-        let cut = limit.map_or(Some(0), |limit| limit.checked_add(1));
-        match cut {
-            Some(cut) if cut < NUMBER_END => {
-                let mut book = vec![1, 1];
-                push_number(&mut book, cut);
-                Ok(Writer { book, limit, before: None })
-            }
-            _ => Err(BAD_NUMBER),
-        }
+        Writer::in_edition(NEW_EDITION, limit)
     }
 
-    /// Writes one more record; `codes` gives the primary and the alternate code of a name under a limit.
+    /// A book without records that carries this edition, as stored books may carry an older one.
+    pub fn in_edition(edition: u32, limit: Option<u64>) -> Result<Self, Fault> {
+        if !EDITIONS.contains(&edition) {
+            return Err(UNKNOWN);
+        }
+        let cut = limit.map_or(Some(0), |limit| limit.checked_add(1));
+        let cut = cut.filter(|cut| *cut < NUMBER_END).ok_or(BAD_NUMBER)? as u32;
+        let header = Header { format: 1, edition, cut };
+        let mut book = Vec::new();
+        for number in [header.format, edition, cut] {
+            push_number(&mut book, number.into());
+        }
+        Ok(Writer { book, header, before: None })
+    }
+
+    /// Writes one more record; `codes` gives the primary and the alternate code of a name in a book with this header.
     pub fn push<C: AsRef<[u8]>>(
         &mut self,
         station: u64,
         name: &[u8],
-        codes: impl FnOnce(&[u8], Option<u64>) -> (C, C),
+        codes: impl FnOnce(&[u8], Header) -> (C, C),
     ) -> Result<(), Fault> {
         if name.len() > NAME_LIMIT {
             return Err(TOO_LONG);
@@ -55,7 +65,7 @@ impl Writer {
         if self.before.is_some_and(|before| station <= u64::from(before)) {
             return Err(NOT_RISING);
         }
-        let (primary, alternate) = codes(name, self.limit);
+        let (primary, alternate) = codes(name, self.header);
         push_number(&mut self.book, station);
         for text in [name, primary.as_ref(), alternate.as_ref()] {
             push_text(&mut self.book, text);
@@ -81,7 +91,7 @@ pub fn add<C: AsRef<[u8]>>(
     length: u64,
     station: u64,
     name: &[u8],
-    codes: impl FnOnce(&[u8], Option<u64>) -> (C, C),
+    codes: impl FnOnce(&[u8], Header) -> (C, C),
 ) -> Result<Vec<u8>, Fault> {
     let present = length.min(room.len() as u64);
     let book = &room[..present as usize];
@@ -90,7 +100,7 @@ pub fn add<C: AsRef<[u8]>>(
         return Err(CUT_SHORT);
     }
     let before = records.last().map(|record| record.station);
-    let mut writer = Writer { book: book.to_vec(), limit: header.limit(), before };
+    let mut writer = Writer { book: book.to_vec(), header, before };
     writer.push(station, name, codes)?;
     if writer.book.len() > room.len() {
         return Err(ROOM_SHORT);

@@ -1,4 +1,7 @@
-//! The station key book: names with their codes, stored with the cut that made them.
+//! The station key book: names with their codes, stored with the edition and the cut that made them.
+//!
+//! A new book carries edition 2. A stored book of edition 1 is read and added to under edition 1, so that all codes of a book are made
+//! alike; books of different editions are not joined.
 //!
 //! [`Book`] keeps its bytes itself. The functions are for those who keep their own room; they are the library's six calls and allocate
 //! nothing.
@@ -41,8 +44,8 @@ pub struct Book {
 }
 
 impl Book {
-    /// A book without records, whose codes will have at most `limit` bytes: [`BookRefusal::BadNumber`] for a limit that the header
-    /// cannot hold.
+    /// A book of edition 2 without records, whose codes will have at most `limit` bytes: [`BookRefusal::BadNumber`] for a limit that the
+    /// header cannot hold.
     pub fn new(limit: Option<u64>) -> Result<Book, BookRefusal> {
         let mut room = vec![0; HEADER_ROOM];
         let length = start_in(&mut room, limit)?;
@@ -50,13 +53,28 @@ impl Book {
         Book::from_bytes(room)
     }
 
-    /// The book that these bytes are, or the fault that is met first in them.
+    /// The book that these bytes are, of either edition, or the fault that is met first in them.
+    ///
+    /// ```
+    /// use simmerquilt::Book;
+    ///
+    /// // A book stored under edition 1 goes on under it, and a new one has edition 2.
+    /// let mut stored = Book::from_bytes(b"\x01\x01\x05".to_vec())?;
+    /// let mut new = Book::new(Some(4))?;
+    /// for book in [&mut stored, &mut new] {
+    ///     book.add(10, "Van Chi")?;
+    /// }
+    /// let key = |book: &Book| book.records().next().unwrap().primary.to_vec();
+    /// assert_eq!((stored.edition(), key(&stored)), (1, b"FNX".to_vec()));
+    /// assert_eq!((new.edition(), key(&new)), (2, b"FNK".to_vec()));
+    /// # Ok::<(), simmerquilt::BookRefusal>(())
+    /// ```
     pub fn from_bytes(bytes: Vec<u8>) -> Result<Book, BookRefusal> {
         let Whole { header, records, end } = read(&bytes)?;
         Ok(Book { room: bytes, header, end, records })
     }
 
-    /// Adds a record. Its station is above all others; its codes are made here. A refusal changes nothing.
+    /// Adds a record. Its station is above all others; its codes are made here, by the book's own edition. A refusal changes nothing.
     pub fn add(&mut self, station: u64, name: impl AsRef<[u8]>) -> Result<(), BookRefusal> {
         let name = name.as_ref();
         let mut answer = append_in(&mut self.room, self.header, self.end, station, name);
@@ -103,7 +121,7 @@ impl Book {
         self.header.limit()
     }
 
-    /// Which edition of the letter rules made its codes.
+    /// Which edition of the letter rules makes its codes: 2 in a new book, 1 or 2 in one that was stored.
     pub fn edition(&self) -> u32 {
         self.header.edition
     }

@@ -16,6 +16,19 @@ extern "C" {
         out: *mut [u64; 5],
     );
 
+    fn simmerquilt_encode_in(
+        edition: u64,
+        word: *const u8,
+        word_length: usize,
+        primary: *mut u8,
+        primary_length: usize,
+        alternate: *mut u8,
+        alternate_length: usize,
+        limited: bool,
+        limit: u64,
+        out: *mut [u64; 5],
+    );
+
     fn simmerquilt_equal(
         first: *const u8,
         first_length: usize,
@@ -97,6 +110,28 @@ pub fn encode(word: &[u8], primary: &mut [u8], alternate: &mut [u8], limit: Opti
     // and `out` are ours to write and lie apart from each other and from the word: the borrows say so.
     unsafe {
         simmerquilt_encode(
+            word.as_ptr(),
+            word.len(),
+            primary.as_mut_ptr(),
+            primary.len(),
+            alternate.as_mut_ptr(),
+            alternate.len(),
+            limit.is_some(),
+            limit.unwrap_or(0),
+            &mut out,
+        );
+    }
+    out
+}
+
+/// As [`encode`], by an edition.
+#[inline]
+pub fn encode_in(edition: u64, word: &[u8], primary: &mut [u8], alternate: &mut [u8], limit: Option<u64>) -> [u64; 5] {
+    let mut out = [0; 5];
+    // SAFETY: as above. Any number may be passed as the edition.
+    unsafe {
+        simmerquilt_encode_in(
+            edition,
             word.as_ptr(),
             word.len(),
             primary.as_mut_ptr(),

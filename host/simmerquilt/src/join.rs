@@ -1,4 +1,5 @@
-//! The join of two books, whose cuts may differ: all pairs of stations that meet.
+//! The join of two books of one edition, whose cuts may differ: all pairs of stations that meet. Books of different editions are refused
+//! by 10, [`JoinRefusal::EditionsDiffer`].
 //!
 //! Two stations meet where their chosen codes agree on their first bytes, as many as the smaller limit of both books; no limit puts no
 //! bound, and a shorter code counts whole. [`Book::join`] makes a list of the pairs, a [`Joiner`] keeps what it works in from join to
@@ -15,11 +16,11 @@ use crate::{book, Book};
 
 impl Book {
     /// The pairs of a station of this book and one of another that meet, by rising station of this one, then of the other: at worst as
-    /// many as the product of both lengths.
+    /// many as the product of both lengths. Both books are of one edition, else [`JoinRefusal::EditionsDiffer`].
     ///
     /// ```
     /// use simmerquilt::join::Pair;
-    /// use simmerquilt::{Book, Choice};
+    /// use simmerquilt::{Book, Choice, JoinRefusal};
     ///
     /// // One office keys its gauges at four, another at six.
     /// let mut ours = Book::new(Some(4))?;
@@ -33,6 +34,10 @@ impl Book {
     /// let key = |book: &Book| book.records().next().unwrap().primary.to_vec();
     /// assert_eq!((key(&ours), key(&theirs)), (b"RJRM".to_vec(), b"RJRML".to_vec()));
     /// assert_eq!(ours.join(&theirs, Choice::Primary)?, [Pair { first: 7, second: 1 }]);
+    ///
+    /// // A book that was stored under edition 1 does not meet a new one.
+    /// let stored = Book::from_bytes(b"\x01\x01\x05\x07\x06jumped\x04JMPT\x04AMPT".to_vec())?;
+    /// assert_eq!(stored.join(&ours, Choice::Primary), Err(JoinRefusal::EditionsDiffer));
     /// # Ok::<(), Box<dyn std::error::Error>>(())
     /// ```
     pub fn join(&self, other: &Book, choice: Choice) -> Result<Vec<Pair>, JoinRefusal> {
@@ -65,7 +70,7 @@ impl Book {
 /// }
 ///
 /// let refused = JoinRefusal::Second(BookRefusal::CutShort);
-/// assert_eq!(joiner.join(&ours, b"\x01\x01", Choice::Primary), Err(refused));
+/// assert_eq!(joiner.join(&ours, b"\x01\x02", Choice::Primary), Err(refused));
 /// # Ok::<(), Box<dyn std::error::Error>>(())
 /// ```
 #[derive(Clone, Debug, Default)]

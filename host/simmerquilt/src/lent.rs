@@ -1,4 +1,4 @@
-//! The library's own two questions, on lent buffers and numbers. Nothing is allocated.
+//! The library's own questions of words, on lent buffers and numbers. Nothing is allocated.
 use crate::face;
 use crate::refusal::{Refusal, Which, WordRefusal};
 
@@ -8,7 +8,7 @@ pub const WORD_LIMIT: usize = 1024;
 /// Buffers of this length are never too short, whatever the word and the limit.
 pub const CODE_ROOM: usize = 2 * WORD_LIMIT - 1;
 
-/// What [`encode_into`] answers.
+/// What [`encode_into`] and [`encode_into_in`] answer.
 #[derive(Clone, Copy, Debug, PartialEq, Eq)]
 pub struct Answer {
     /// 0 for codes written, else the refusal's number.
@@ -30,7 +30,7 @@ impl Answer {
     }
 }
 
-/// Encodes a word into two lent buffers, under a limit or none. Each code lies at the front of its buffer; the bytes behind it,
+/// Encodes a word by edition 1 into two lent buffers, under a limit or none. Each code lies at the front of its buffer; the bytes behind it,
 /// and under a refusal both buffers, keep what they held.
 ///
 /// The need is 0 if the trimmed word is empty, else `2 * t - 1` for its `t` bytes, or the limit if that is smaller.
@@ -47,7 +47,32 @@ impl Answer {
 /// ```
 #[inline]
 pub fn encode_into(word: &[u8], primary: &mut [u8], alternate: &mut [u8], limit: Option<u64>) -> Answer {
-    let [number, place, primary, alternate, visits] = face::encode(word, primary, alternate, limit);
+    answer(face::encode(word, primary, alternate, limit))
+}
+
+/// Encodes a word as [`encode_into`] does, by the edition of the letter rules that has this number. An edition that is not known is told
+/// before all else, by 7 and [`Refusal::UnknownEdition`]; [`Edition`](crate::Edition) has those that are.
+///
+/// ```
+/// use simmerquilt::{encode_into_in, Refusal};
+///
+/// let (mut primary, mut alternate) = ([b'.'; 13], [b'.'; 13]);
+/// let answer = encode_into_in(1, b"Van Chi", &mut primary, &mut alternate, None);
+/// assert_eq!((&primary[..answer.primary], &alternate[..answer.alternate]), (&b"FNX"[..], &b"FNK"[..]));
+/// let answer = encode_into_in(2, b"Van Chi", &mut primary, &mut alternate, None);
+/// assert_eq!((&primary[..answer.primary], &alternate[..answer.alternate]), (&b"FNK"[..], &b"FNK"[..]));
+///
+/// // Neither the word nor the buffers are looked at.
+/// let answer = encode_into_in(3, &[200; 2000], &mut [], &mut [], None);
+/// assert_eq!((answer.number, answer.refusal()), (7, Some(Refusal::UnknownEdition)));
+/// ```
+#[inline]
+pub fn encode_into_in(edition: u64, word: &[u8], primary: &mut [u8], alternate: &mut [u8], limit: Option<u64>) -> Answer {
+    answer(face::encode_in(edition, word, primary, alternate, limit))
+}
+
+#[inline]
+fn answer([number, place, primary, alternate, visits]: [u64; 5]) -> Answer {
     Answer {
         number,
         place: place as usize,
@@ -83,7 +108,7 @@ impl Verdict {
     }
 }
 
-/// Whether the primary codes of two words, or their alternate ones, are equal under a limit or none.
+/// Whether the primary codes of two words by edition 1, or their alternate ones, are equal under a limit or none.
 ///
 /// ```
 /// assert_eq!(simmerquilt::ask_equal(b"Villa", b"Fillo", None, false).result(), Ok(true));

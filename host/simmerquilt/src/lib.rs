@@ -13,27 +13,42 @@
 //! # Ok::<(), Refusal>(())
 //! ```
 //!
-//! [`encode_into`] and [`ask_equal`] are the library's own two questions, on lent buffers and without allocation. A [`Book`] keeps
-//! names with their codes; [`book`] has the library's calls for those who keep a book's bytes themselves. [`Book::join`] finds the stations
-//! of two books that meet, also where their cuts differ; [`join`] has it for those who lend their own room.
+//! The codes are those of edition 1 of the letter rules, which alone equals the crate. [`DoubleMetaphone::in_edition`] has them by
+//! another [`Edition`]: edition 2 sounds the CH of "Van Chi" as K.
+//!
+//! ```
+//! use simmerquilt::{DoubleMetaphone, Edition, Refusal};
+//!
+//! let encoder = DoubleMetaphone::default();
+//! assert_eq!(encoder.encode("Van Chi")?, "FNX");
+//! assert_eq!(encoder.in_edition(Edition::Two).encode("Van Chi")?, "FNK");
+//! # Ok::<(), Refusal>(())
+//! ```
+//!
+//! [`encode_into`], [`encode_into_in`] and [`ask_equal`] are the library's own questions, on lent buffers and without allocation. A
+//! [`Book`] keeps names with their codes and says by which edition they were made; [`book`] has the library's calls for those who keep a
+//! book's bytes themselves. [`Book::join`] finds the stations of two books of one edition that meet, also where their cuts differ;
+//! [`join`] has it for those who lend their own room.
 #![deny(unsafe_code)]
 #![warn(missing_docs)]
 
 pub mod book;
+mod edition;
 mod face;
 pub mod join;
 mod lent;
 mod refusal;
 
 pub use book::{Book, BookRefusal, Record, Records};
+pub use edition::{Edition, EditionEncoder};
 pub use join::{Choice, JoinRefusal, Joiner, Pair};
-pub use lent::{ask_equal, encode_into, Answer, Verdict, CODE_ROOM, WORD_LIMIT};
+pub use lent::{ask_equal, encode_into, encode_into_in, Answer, Verdict, CODE_ROOM, WORD_LIMIT};
 pub use refusal::{Refusal, Which, WordRefusal};
 
 /// Room for both codes that is taken from the stack; longer ones are rare and take it from the heap.
 const SMALL_ROOM: usize = 64;
 
-/// An encoder: the most bytes that a code may have, or no limit.
+/// An encoder of edition 1, whose codes are those of the crate rphonetic 4.0.0: the most bytes that a code may have, or no limit.
 #[derive(Clone, Copy, Debug, PartialEq, Eq, PartialOrd, Ord, Hash)]
 pub struct DoubleMetaphone {
     max_code_length: Option<usize>,
@@ -50,6 +65,19 @@ impl DoubleMetaphone {
     /// An encoder whose codes have at most the given bytes, or any number of them.
     pub const fn new(max_code_length: Option<usize>) -> Self {
         Self { max_code_length }
+    }
+
+    /// The encoder of an edition, under the same limit. It has no equality question, which is edition 1's alone.
+    ///
+    /// ```
+    /// # use simmerquilt::{DoubleMetaphone, Edition};
+    /// let encoder = DoubleMetaphone::new(None).in_edition(Edition::Two);
+    /// assert_eq!(encoder.encode("Von Reichert")?, "FNRKRT");
+    /// assert_eq!(encoder.edition(), Edition::Two);
+    /// # Ok::<(), simmerquilt::Refusal>(())
+    /// ```
+    pub const fn in_edition(self, edition: Edition) -> EditionEncoder {
+        EditionEncoder::new(self, edition)
     }
 
     /// The primary code.
@@ -71,16 +99,10 @@ impl DoubleMetaphone {
     /// # Ok::<(), simmerquilt::Refusal>(())
     /// ```
     pub fn double_metaphone(&self, word: impl AsRef<[u8]>) -> Result<DoubleMetaphoneResult, Refusal> {
-        let word = word.as_ref();
-        let room = self.room(word.len());
-        if room <= SMALL_ROOM {
-            self.encode_with(word, &mut [0; 2 * SMALL_ROOM][..2 * room])
-        } else {
-            self.encode_with(word, &mut vec![0; 2 * room])
-        }
+        self.codes(Edition::One, word.as_ref())
     }
 
-    /// Whether two words have the same code, the alternate one if `alternate` says so, else the primary one.
+    /// Whether two words have the same code by edition 1, the alternate one if `alternate` says so, else the primary one.
     ///
     /// ```
     /// # use simmerquilt::{DoubleMetaphone, Refusal, Which, WordRefusal};
@@ -100,6 +122,16 @@ impl DoubleMetaphone {
         ask_equal(first.as_ref(), second.as_ref(), self.limit(), alternate).result()
     }
 
+    /// Both codes and the visits by an edition, for this encoder and for that of the edition.
+    fn codes(&self, edition: Edition, word: &[u8]) -> Result<DoubleMetaphoneResult, Refusal> {
+        let room = self.room(word.len());
+        if room <= SMALL_ROOM {
+            self.codes_with(edition, word, &mut [0; 2 * SMALL_ROOM][..2 * room])
+        } else {
+            self.codes_with(edition, word, &mut vec![0; 2 * room])
+        }
+    }
+
     fn limit(&self) -> Option<u64> {
         self.max_code_length.map(|length| length as u64)
     }
@@ -111,9 +143,9 @@ impl DoubleMetaphone {
     }
 
     /// Encodes with one half of the room for each code.
-    fn encode_with(&self, word: &[u8], room: &mut [u8]) -> Result<DoubleMetaphoneResult, Refusal> {
+    fn codes_with(&self, edition: Edition, word: &[u8], room: &mut [u8]) -> Result<DoubleMetaphoneResult, Refusal> {
         let (primary, alternate) = room.split_at_mut(room.len() / 2);
-        let answer = encode_into(word, primary, alternate, self.limit());
+        let answer = encode_into_in(edition.number(), word, primary, alternate, self.limit());
         match answer.refusal() {
             Some(refusal) => Err(refusal),
             None => Ok(DoubleMetaphoneResult {

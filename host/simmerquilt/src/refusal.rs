@@ -1,9 +1,12 @@
 use std::error::Error;
 use std::fmt::{self, Display, Formatter};
 
-/// Why a word got no codes: the refusals 1 to 4, in the order in which they are tested.
+/// Why a word got no codes, in the order in which it is tested: that the edition is not known, then the refusals 1 to 4.
 #[derive(Clone, Copy, Debug, PartialEq, Eq, Hash)]
 pub enum Refusal {
+    /// 7: there is no edition of this number. Only [`encode_into_in`](crate::encode_into_in) and [`Edition`](crate::Edition) are given
+    /// numbers of editions.
+    UnknownEdition,
     /// 1: the word, before trimming, is over [`WORD_LIMIT`](crate::WORD_LIMIT) bytes.
     TooLong,
     /// 2: some byte is 128 or more; the place is that of the first, before trimming.
@@ -11,7 +14,8 @@ pub enum Refusal {
         /// Counted in bytes from 0.
         place: usize,
     },
-    /// 3: the primary buffer is shorter than the need. Only [`encode_into`](crate::encode_into) lends buffers of any length.
+    /// 3: the primary buffer is shorter than the need. Only [`encode_into`](crate::encode_into) and
+    /// [`encode_into_in`](crate::encode_into_in) lend buffers of any length.
     PrimaryShort,
     /// 4: the alternate buffer is shorter than the need. Likewise.
     AlternateShort,
@@ -25,8 +29,9 @@ impl Refusal {
             1 => Some(Refusal::TooLong),
             2 => Some(Refusal::NotAscii { place: place as usize }),
             3 => Some(Refusal::PrimaryShort),
-            // The library is proved to give no number above 4.
-            _ => Some(Refusal::AlternateShort),
+            4 => Some(Refusal::AlternateShort),
+            // The library is proved to give no other number than 7.
+            _ => Some(Refusal::UnknownEdition),
         }
     }
 }
@@ -34,6 +39,7 @@ impl Refusal {
 impl Display for Refusal {
     fn fmt(&self, f: &mut Formatter<'_>) -> fmt::Result {
         match self {
+            Refusal::UnknownEdition => f.write_str("the edition is not known"),
             Refusal::TooLong => write!(f, "the word is over {} bytes", crate::WORD_LIMIT),
             Refusal::NotAscii { place } => write!(f, "the byte at place {place} is not ASCII"),
             Refusal::PrimaryShort => f.write_str("the primary buffer is too short"),

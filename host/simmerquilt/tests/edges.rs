@@ -1,12 +1,26 @@
-//! Document 01's edges: what is refused, by which number, and what is left alone.
-use simmerquilt::{ask_equal, encode_into, Answer, DoubleMetaphone, Refusal, Which, WordRefusal, CODE_ROOM, WORD_LIMIT};
+//! Document 01's edges, which are those of both editions: what is refused, by which number, and what is left alone.
+use simmerquilt::{ask_equal, encode_into, encode_into_in, Answer, DoubleMetaphone, Edition, Refusal, Which, WordRefusal};
+use simmerquilt::{CODE_ROOM, WORD_LIMIT};
 
 const HELD: u8 = 0xee;
 
-/// The answer on buffers of these lengths, and what they hold then.
+/// The answer on buffers of these lengths, and what they hold then: the same by each call on words that the editions agree on.
 fn lent(word: &[u8], primary: usize, alternate: usize, limit: Option<u64>) -> (Answer, Vec<u8>, Vec<u8>) {
+    let (mut p, mut a) = (vec![HELD; primary], vec![HELD; alternate]);
+    let answer = encode_into(word, &mut p, &mut a, limit);
+    for edition in [Edition::One, Edition::Two] {
+        assert_eq!(
+            lent_in(edition.number(), word, primary, alternate, limit),
+            (answer, p.clone(), a.clone()),
+            "{edition:?}"
+        );
+    }
+    (answer, p, a)
+}
+
+fn lent_in(edition: u64, word: &[u8], primary: usize, alternate: usize, limit: Option<u64>) -> (Answer, Vec<u8>, Vec<u8>) {
     let (mut primary, mut alternate) = (vec![HELD; primary], vec![HELD; alternate]);
-    let answer = encode_into(word, &mut primary, &mut alternate, limit);
+    let answer = encode_into_in(edition, word, &mut primary, &mut alternate, limit);
     (answer, primary, alternate)
 }
 
@@ -81,6 +95,38 @@ fn a_refusal_changes_nothing() {
     }
 }
 
+/// Numbers that are no edition: beside those that are, and those that look like them in fewer bits.
+const UNKNOWN: [u64; 9] = [0, 3, 4, 257, 258, (1 << 32) + 1, (1 << 32) + 2, u64::MAX - 1, u64::MAX];
+
+#[test]
+fn an_unknown_edition_is_told_before_all_else() {
+    let long = [0xff; WORD_LIMIT + 1];
+    let cases: [(&[u8], usize, usize); 6] =
+        [(b"Van Chi", 13, 13), (&long, 0, 0), (&long[..9], 9, 9), (b"Weser", 8, 9), (b"Weser", 9, 8), (b"", 0, 0)];
+    for edition in UNKNOWN {
+        for (word, p, a) in cases {
+            for limit in [None, Some(0), Some(4), Some(u64::MAX)] {
+                let refused = Answer { number: 7, place: 0, primary: 0, alternate: 0, visits: 0 };
+                assert_eq!(lent_in(edition, word, p, a, limit), (refused, vec![HELD; p], vec![HELD; a]), "{edition}");
+                assert_eq!(refused.refusal(), Some(Refusal::UnknownEdition));
+            }
+        }
+        assert_eq!(Edition::try_from(edition), Err(Refusal::UnknownEdition));
+    }
+    assert_eq!([1, 2].map(Edition::try_from), [Ok(Edition::One), Ok(Edition::Two)]);
+    assert_eq!([Edition::One, Edition::Two].map(Edition::number), [1, 2]);
+}
+
+#[test]
+fn the_editions_refuse_alike() {
+    for edition in [Edition::One, Edition::Two] {
+        let encoder = DoubleMetaphone::default().in_edition(edition);
+        assert_eq!(encoder.encode(vec![0xff; WORD_LIMIT + 1]), Err(Refusal::TooLong));
+        assert_eq!(encoder.encode("Van Ch\u{e7}"), Err(Refusal::NotAscii { place: 6 }));
+        assert_eq!(encoder.encode_alternate("\u{e7}"), Err(Refusal::NotAscii { place: 0 }));
+    }
+}
+
 #[test]
 fn equality_says_which_word_is_refused() {
     let long = [b'b'; WORD_LIMIT + 1];
@@ -95,6 +141,7 @@ fn equality_says_which_word_is_refused() {
 #[test]
 fn refusals_read_well() {
     assert_eq!(Refusal::TooLong.to_string(), "the word is over 1024 bytes");
+    assert_eq!(Refusal::UnknownEdition.to_string(), "the edition is not known");
     let refused = WordRefusal { which: Which::Second, refusal: Refusal::NotAscii { place: 7 } };
     assert_eq!(refused.to_string(), "second word: the byte at place 7 is not ASCII");
 }

@@ -16,7 +16,7 @@ pub const STATION_END: u64 = 1 << 28;
 pub struct Header {
     /// How records are laid out: 1.
     pub format: u32,
-    /// Which edition of the letter rules made the codes: 1.
+    /// Which edition of the letter rules makes the codes: 2 in a new book, 1 or 2 in one that is read.
     pub edition: u32,
     /// 0 for no limit, else the limit plus 1.
     pub cut: u32,
@@ -87,7 +87,7 @@ fn header(format: u64, edition: u64, cut: u64) -> Header {
     Header { format: format as u32, edition: edition as u32, cut: cut as u32 }
 }
 
-/// Writes a book without records to the front of a room and tells its length: 5, then 9.
+/// Writes a book without records to the front of a room and tells its length: 5, then 9. A new book carries edition 2.
 ///
 /// ```
 /// use simmerquilt::book;
@@ -95,7 +95,7 @@ fn header(format: u64, edition: u64, cut: u64) -> Header {
 /// let mut room = [0; 32];
 /// let length = book::start_in(&mut room, Some(4))?;
 /// let length = book::add_in(&mut room, length, 7, b"jumped")?;
-/// assert_eq!(&room[..length], b"\x01\x01\x05\x07\x06jumped\x04JMPT\x04AMPT");
+/// assert_eq!(&room[..length], b"\x01\x02\x05\x07\x06jumped\x04JMPT\x04AMPT");
 ///
 /// let (header, cursor) = book::open(&room[..length])?;
 /// let (record, _) = book::next(&room[..length], cursor)?.expect("there is one");
@@ -142,7 +142,8 @@ pub fn read(book: &[u8]) -> Result<Whole, BookRefusal> {
     Ok(Whole { header: header(format, edition, cut), records: records as usize, end })
 }
 
-/// Adds a record to the book in the first `length` bytes of a room and tells the new length. The book is read first, and its fault is
+/// Adds a record to the book in the first `length` bytes of a room and tells the new length. Its codes are made by the edition and under
+/// the cut of the book's header. The book is read first, and its fault is
 /// given; then the record is tested for 1, 2, 5, 8 and 9. Of a length beyond the room the bytes that are there are read, and if they
 /// show no fault it is 6. A refusal writes nothing; bytes behind the new end keep what they held.
 #[inline]

@@ -13,7 +13,7 @@ pub enum BookRefusal {
     BadNumber,
     /// 6: the book ends inside something.
     CutShort,
-    /// 7: the format or the edition is not known.
+    /// 7: the format or the edition is not known: the format 1 is, and the editions 1 and 2 are.
     Unknown,
     /// 8: a station is not above the one before.
     NotRising,

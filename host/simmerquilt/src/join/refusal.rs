@@ -9,7 +9,8 @@ pub enum JoinRefusal {
     First(BookRefusal),
     /// 1, 2 or 5 to 8: the first book is good, and the second has a fault.
     Second(BookRefusal),
-    /// 10: the books' codes were made by different editions of the letter rules. Only one is known as yet, so that it is not met.
+    /// 10: both books are good, and their codes were made by different editions of the letter rules. A code of one says nothing of a
+    /// code of the other.
     EditionsDiffer,
     /// 9: the lent scratch or the room for the pairs is too short; where they grow by themselves, that there was no memory for it.
     RoomShort,

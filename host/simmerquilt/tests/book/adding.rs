@@ -1,6 +1,6 @@
 //! Starting a book and adding to it: refusals in their order, rooms of every length, and what is left alone.
 use crate::draw;
-use crate::witness::{codes, made, same_adding, written};
+use crate::witness::{blank, codes, made, same_adding, written};
 use plain::Writer;
 use simmerquilt::book::{self, End, Header, Whole, HEADER_ROOM, RECORD_ROOM, STATION_END};
 use simmerquilt::{Book, BookRefusal};
@@ -42,6 +42,39 @@ fn starting_asks_for_the_cut_and_then_for_room() {
 }
 
 #[test]
+fn a_new_book_carries_edition_2() {
+    let mut room = [HELD; HEADER_ROOM];
+    assert_eq!(book::start_in(&mut room, Some(4)), Ok(3));
+    assert_eq!(room[..3], [1, 2, 5]);
+    assert_eq!(Book::new(None).unwrap().edition(), 2);
+}
+
+/// The record of "Van Chi" in an edition's book, under limit 4.
+const VAN_CHI: [(u32, &[u8]); 2] = [(1, b"\x0a\x07Van Chi\x03FNX\x03FNK"), (2, b"\x0a\x07Van Chi\x03FNK\x03FNK")];
+
+#[test]
+fn a_book_is_added_to_under_its_own_edition() {
+    for (edition, record) in VAN_CHI {
+        let blank = blank(edition, Some(4));
+        let expected = [&blank[..], record].concat();
+        let mut added = lent(&blank, expected.len());
+        assert_eq!(book::add_in(&mut added, blank.len(), 10, b"Van Chi"), Ok(expected.len()));
+        assert_eq!(added, expected);
+
+        let mut appended = lent(&blank, expected.len());
+        let Whole { header, end, .. } = book::read(&blank).unwrap();
+        assert_eq!(header.edition, edition);
+        let end = book::append_in(&mut appended, header, end, 10, b"Van Chi");
+        assert_eq!(end, Ok(End { length: expected.len(), floor: 11 }));
+        assert_eq!(appended, expected);
+
+        let mut grown = Book::from_bytes(blank).unwrap();
+        grown.add(10, "Van Chi").unwrap();
+        assert_eq!((grown.edition(), grown.as_bytes()), (edition, &expected[..]));
+    }
+}
+
+#[test]
 fn rooms_of_every_length_around_the_need() {
     let mut rng = Rng::new(11, 0);
     for _ in 0..1500 {
@@ -76,13 +109,15 @@ fn a_short_room_has_every_length() {
 fn a_record_is_tested_for_1_2_5_8_9_behind_the_book() {
     let good = b"\x01\x01\x05\x07\x01a\x01A\x01A";
     let mut long = vec![b'b'; 1025];
-    let damages: [(u64, &[u8]); 7] = [
+    let damages: [(u64, &[u8]); 9] = [
         (0, good),
+        (0, b"\x01\x02\x05\x07\x01a\x01A\x01A"),
         (1, b"\x01\x01\x05\x07\x81\x08"),
         (2, b"\x01\x01\x05\x07\x01\x80"),
         (5, b"\x01\x01\x05\x87\x00"),
         (6, b"\x01\x01\x05\x07\x01a\x01A\x01"),
-        (7, b"\x01\x02\x05"),
+        (7, b"\x01\x03\x05"),
+        (7, b"\x01\x00\x05"),
         (8, b"\x01\x01\x05\x07\x00\x00\x00\x07"),
     ];
     for (damage, book) in damages {
@@ -165,9 +200,9 @@ fn appending_is_adding_all_along_a_list() {
         let count = rng.below(30);
         let list = draw::list(&mut rng, count, draw::name);
         let room = written(&list).len() + rng.below(3);
-        let (mut added, mut appended) = (vec![HELD; room], vec![HELD; room]);
-        let mut length = book::start_in(&mut added, list.limit).unwrap();
-        assert_eq!(book::start_in(&mut appended, list.limit), Ok(length));
+        let blank = blank(list.edition, list.limit);
+        let (mut added, mut appended) = (lent(&blank, room), lent(&blank, room));
+        let mut length = blank.len();
         let Whole { header, mut end, .. } = book::read(&appended[..length]).unwrap();
         for (station, name) in &list.records {
             length = book::add_in(&mut added, length, *station, name).unwrap();
@@ -188,8 +223,8 @@ fn an_append_is_tested_for_7_and_6_and_then_as_a_record() {
     let mut long = vec![b'b'; 1025];
     for conditions in 0..128 {
         let holds = |condition: u32| conditions >> condition & 1 == 1;
-        let unknown = [(0, 1), (2, 1), (u32::MAX, 1), (1, 0), (1, 2), (3, 3)];
-        let known = [(1, 1)];
+        let unknown = [(0, 1), (2, 1), (u32::MAX, 1), (1, 0), (1, 3), (1, 258), (2, 2), (1, u32::MAX)];
+        let known = [(1, 1), (1, 2)];
         long[9] = if holds(3) { 200 } else { b'b' };
         let name = if holds(2) { &long[..] } else { &long[..20] };
         let station = if holds(4) { STATION_END } else { 8 };
@@ -218,7 +253,7 @@ fn appending_needs_just_the_room_of_the_record() {
     let mut rng = Rng::new(15, 0);
     for _ in 0..2000 {
         let (limit, name, station) = (draw::limit(&mut rng), draw::name(&mut rng), draw::number(&mut rng));
-        let mut writer = Writer::new(limit).unwrap();
+        let mut writer = Writer::in_edition(draw::edition(&mut rng), limit).unwrap();
         let book = writer.as_bytes().to_vec();
         writer.push(station, &name, codes).unwrap();
         let Whole { header, end, .. } = book::read(&book).unwrap();

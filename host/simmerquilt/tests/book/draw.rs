@@ -5,6 +5,7 @@ use words::{Rng, FRAGMENTS};
 /// What a book is made of.
 #[derive(Clone, Debug)]
 pub struct List {
+    pub edition: u32,
     pub limit: Option<u64>,
     pub records: Vec<(u64, Vec<u8>)>,
 }
@@ -49,11 +50,20 @@ pub fn short_name(rng: &mut Rng) -> Vec<u8> {
     text(rng, length)
 }
 
+/// Either edition.
+pub fn edition(rng: &mut Rng) -> u32 {
+    plain::EDITIONS[rng.below(plain::EDITIONS.len())]
+}
+
+/// Now and then it begins so that the editions differ on it.
 fn text(rng: &mut Rng, length: usize) -> Vec<u8> {
     if rng.once_in(5) {
         return (0..length).map(|_| rng.byte() & 127).collect();
     }
     let mut name = String::new();
+    if rng.once_in(4) {
+        name += rng.pick(&["Van Ch", "von ch", "VON CH", "Van"]);
+    }
     while name.len() < length {
         name += rng.pick(FRAGMENTS);
     }
@@ -67,7 +77,11 @@ pub fn list(rng: &mut Rng, count: usize, name: impl Fn(&mut Rng) -> Vec<u8>) -> 
     while stations.len() < count {
         stations.insert(number(rng));
     }
-    List { limit: limit(rng), records: stations.into_iter().map(|station| (station, name(rng))).collect() }
+    List {
+        edition: edition(rng),
+        limit: limit(rng),
+        records: stations.into_iter().map(|station| (station, name(rng))).collect(),
+    }
 }
 
 /// A number in a good form, or with a group of 0 behind it, or with its end cut off, or with too many groups.
@@ -106,9 +120,9 @@ fn any_text(rng: &mut Rng, book: &mut Vec<u8>) {
 /// Bytes laid out as a book is, with faults in any field.
 pub fn shaped(rng: &mut Rng) -> Vec<u8> {
     let mut book = Vec::new();
-    for _ in 0..2 {
-        let one = if rng.once_in(40) { number(rng) } else { 1 };
-        book.extend(any_number(rng, one));
+    for known in [1, edition(rng)] {
+        let known = if rng.once_in(40) { number(rng) } else { known.into() };
+        book.extend(any_number(rng, known));
     }
     let cut = number(rng);
     book.extend(any_number(rng, cut));
@@ -128,7 +142,7 @@ pub fn shaped(rng: &mut Rng) -> Vec<u8> {
 
 /// Any bytes, most of them small, so that numbers are short and lengths are met.
 pub fn bytes(rng: &mut Rng) -> Vec<u8> {
-    let mut book = vec![1, 1];
+    let mut book = vec![1, edition(rng) as u8];
     let length = rng.below(40);
     book.extend((0..length).map(|_| match rng.below(4) {
         0 => rng.byte(),

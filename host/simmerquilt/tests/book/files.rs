@@ -57,10 +57,26 @@ fn a_loaded_book_is_gone_on() {
 }
 
 #[test]
+fn a_stored_book_of_edition_1_is_gone_on_under_it() {
+    let folder = folder("older");
+    let path = folder.join("gauges.book");
+    fs::write(&path, [1, 1, 5]).unwrap();
+    for station in [3, 10] {
+        let mut loaded = Book::load(&path).unwrap();
+        loaded.add(station, "Van Chi").unwrap();
+        loaded.save(&path).unwrap();
+    }
+    let loaded = Book::load(&path).unwrap();
+    assert_eq!((loaded.edition(), loaded.len()), (1, 2));
+    assert!(loaded.records().all(|record| record.primary == b"FNX" && record.alternate == b"FNK"));
+    fs::remove_dir_all(folder).unwrap();
+}
+
+#[test]
 fn a_damaged_file_is_told() {
     let folder = folder("damaged");
     let path = folder.join("gauges.book");
-    fs::write(&path, [1, 2, 0]).unwrap();
+    fs::write(&path, [1, 3, 0]).unwrap();
     let error = Book::load(&path).unwrap_err();
     assert_eq!(error.kind(), ErrorKind::InvalidData);
     assert_eq!(error.get_ref().unwrap().downcast_ref(), Some(&BookRefusal::Unknown));

@@ -3,7 +3,7 @@ use crate::draw::{self, List};
 use crate::witness::{made, same_reading, same_record, same_walk, written};
 use plain::Reader;
 use simmerquilt::book::Cursor;
-use simmerquilt::Book;
+use simmerquilt::{Book, BookRefusal};
 use words::Rng;
 
 const BOOKS: usize = 3000;
@@ -25,9 +25,21 @@ fn both_write_the_same_bytes_and_read_them_alike() {
         let bytes = written(&list);
         assert_eq!(book.as_bytes(), bytes, "{list:?}");
         same_reading(&bytes);
-        assert_eq!((book.len(), book.limit(), book.edition()), (list.records.len(), list.limit, 1));
+        assert_eq!((book.len(), book.limit(), book.edition()), (list.records.len(), list.limit, list.edition));
         assert_eq!(book.is_empty(), list.records.is_empty());
     }
+}
+
+#[test]
+fn the_same_list_has_another_book_under_each_edition() {
+    let mut differ = 0;
+    for list in lists(11, BOOKS / 10, 24, draw::name) {
+        let [one, two] = plain::EDITIONS.map(|edition| made(&List { edition, ..list.clone() }));
+        assert_eq!((one.edition(), two.edition()), (1, 2));
+        differ += usize::from(!one.records().eq(two.records()));
+    }
+    // They are told apart by their codes too, and not by their headers alone.
+    assert!(differ > BOOKS / 40, "{differ}");
 }
 
 #[test]
@@ -107,8 +119,22 @@ fn every_short_string_of_some_bytes() {
             let bytes: Vec<u8> = (0..length).map(|at| BYTES[string / BYTES.len().pow(at) % BYTES.len()]).collect();
             same_reading(&bytes);
             // The same as what follows a header.
-            same_reading(&[&[1, 1, 0], &bytes[..]].concat());
+            for edition in plain::EDITIONS {
+                same_reading(&[&[1, edition as u8, 0], &bytes[..]].concat());
+            }
         }
+    }
+}
+
+#[test]
+fn other_editions_are_not_known() {
+    for edition in (0..300).chain([16_383, 16_384, (1 << 21) + 1, (1 << 28) - 1]) {
+        let mut bytes = vec![1];
+        plain::push_number(&mut bytes, edition);
+        bytes.push(5);
+        same_reading(&bytes);
+        let read = Book::from_bytes(bytes).map(|book| u64::from(book.edition()));
+        assert_eq!(read, if matches!(edition, 1 | 2) { Ok(edition) } else { Err(BookRefusal::Unknown) });
     }
 }
 

@@ -1,4 +1,5 @@
-//! The stored books, whose codes are the unchanged Rust's: the library makes these very bytes, reads them and prints the same.
+//! The stored books, whose codes are the unchanged Rust's or, under edition 2, those of its copy with one test read otherwise: the library
+//! makes these very bytes, reads them and prints the same.
 use simmerquilt::Book;
 use std::fs;
 use std::path::{Path, PathBuf};
@@ -33,12 +34,20 @@ fn list(printed: &str) -> Vec<(u64, &str)> {
         .collect()
 }
 
+/// Each with its edition and its limit.
+const BOOKS: [(&str, u32, u64); 3] = [("gauges-4", 1, 4), ("gauges-6", 1, 6), ("gauges-4-edition-2", 2, 4)];
+
+/// What a stored book begins with. Those of an older edition are not started any more, and go on from this.
+const HEADER: usize = 3;
+
 #[test]
 fn the_library_makes_and_prints_the_stored_books() {
-    for limit in [4, 6] {
-        let lines = fs::read_to_string(stored(&format!("gauges-{limit}.txt"))).unwrap();
-        let bytes = fs::read(stored(&format!("gauges-{limit}.book"))).unwrap();
-        let mut made = Book::new(Some(limit)).unwrap();
+    for (name, edition, limit) in BOOKS {
+        let lines = fs::read_to_string(stored(&format!("{name}.txt"))).unwrap();
+        let bytes = fs::read(stored(&format!("{name}.book"))).unwrap();
+        let mut made = Book::from_bytes(bytes[..HEADER].to_vec()).unwrap();
+        assert_eq!((made.edition(), made.limit(), made.is_empty()), (edition, Some(limit), true));
+        assert_eq!(made == Book::new(Some(limit)).unwrap(), edition == 2);
         for (station, name) in list(&lines) {
             made.add(station, name).unwrap();
         }
@@ -46,4 +55,13 @@ fn the_library_makes_and_prints_the_stored_books() {
         assert_eq!(made.as_bytes(), bytes);
         assert_eq!(printed(&Book::from_bytes(bytes).unwrap()), lines);
     }
+}
+
+#[test]
+fn the_stored_books_of_both_editions_differ_on_van_chi_alone() {
+    let [one, two] = ["gauges-4", "gauges-4-edition-2"].map(|name| Book::load(stored(&format!("{name}.book"))).unwrap());
+    let differ: Vec<_> = one.records().zip(two.records()).filter(|(one, two)| one != two).collect();
+    let [(one, two)] = differ[..] else { panic!("{differ:?}") };
+    assert_eq!((text(one.name), text(one.primary), text(one.alternate)), ("Van Chi", "FNX", "FNK"));
+    assert_eq!((text(two.name), text(two.primary), text(two.alternate)), ("Van Chi", "FNK", "FNK"));
 }

@@ -2,26 +2,37 @@
 use crate::draw::List;
 use plain::{Reader, Writer};
 use simmerquilt::book::{self, Cursor, End};
-use simmerquilt::{Book, DoubleMetaphone};
+use simmerquilt::{Book, DoubleMetaphone, Edition};
 
-/// The library's own codes: that they are right is shown elsewhere.
-pub fn codes(name: &[u8], limit: Option<u64>) -> (String, String) {
-    let result = DoubleMetaphone::new(limit.map(|limit| limit as usize)).double_metaphone(name).expect("it is a name");
+/// The library's own codes, by the edition of the book: that they are right is shown elsewhere.
+pub fn codes(name: &[u8], header: plain::Header) -> (String, String) {
+    let edition = Edition::try_from(u64::from(header.edition)).expect("it is known");
+    let encoder = DoubleMetaphone::new(header.limit().map(|limit| limit as usize)).in_edition(edition);
+    let result = encoder.double_metaphone(name).expect("it is a name");
     (result.primary().to_string(), result.alternate().to_string())
+}
+
+/// A book of this edition without records, by the plain writer.
+pub fn blank(edition: u32, limit: Option<u64>) -> Vec<u8> {
+    Writer::in_edition(edition, limit).unwrap().into_bytes()
 }
 
 /// The list's book by the plain writer.
 pub fn written(list: &List) -> Vec<u8> {
-    let mut writer = Writer::new(list.limit).unwrap();
+    let mut writer = Writer::in_edition(list.edition, list.limit).unwrap();
     for (station, name) in &list.records {
         writer.push(*station, name, codes).unwrap();
     }
     writer.into_bytes()
 }
 
-/// The list's book by the library.
+/// The list's book by the library, which starts new ones alone; an older one goes on from a stored header.
 pub fn made(list: &List) -> Book {
-    let mut book = Book::new(list.limit).unwrap();
+    let mut book = if list.edition == plain::NEW_EDITION {
+        Book::new(list.limit).unwrap()
+    } else {
+        Book::from_bytes(blank(list.edition, list.limit)).unwrap()
+    };
     for (station, name) in &list.records {
         book.add(*station, name).unwrap();
     }

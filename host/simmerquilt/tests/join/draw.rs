@@ -1,6 +1,7 @@
 //! Books whose keys meet often, the same from the same seed.
-use plain::Writer;
-use simmerquilt::{Book, DoubleMetaphone};
+use plain::{Writer, EDITIONS};
+use simmerquilt::book::STATION_END;
+use simmerquilt::{Book, DoubleMetaphone, Edition};
 use words::{gauges, Rng, FRAGMENTS};
 
 pub const LIMITS: [Option<u64>; 6] = [Some(0), Some(1), Some(3), Some(4), Some(6), None];
@@ -8,6 +9,11 @@ pub const LIMITS: [Option<u64>; 6] = [Some(0), Some(1), Some(3), Some(4), Some(6
 /// Every limit of the first book with every one of the second.
 pub fn limits() -> impl Iterator<Item = (Option<u64>, Option<u64>)> {
     LIMITS.into_iter().flat_map(|first| LIMITS.map(|second| (first, second)))
+}
+
+/// Either edition.
+pub fn edition(rng: &mut Rng) -> u32 {
+    EDITIONS[rng.below(EDITIONS.len())]
 }
 
 /// None, one, a few, and now and then some hundred.
@@ -21,9 +27,9 @@ pub fn size(rng: &mut Rng) -> usize {
     }
 }
 
-/// Rising stations with gaps, close to each other or far apart.
+/// Rising stations with gaps, close to each other or far apart, so that the last is still a station.
 fn stations(rng: &mut Rng, count: usize) -> Vec<u64> {
-    let gap = [1, 3, 300, 200_000][rng.below(4)];
+    let gap = [1, 3, 300, 200_000][rng.below(4)].min(STATION_END as usize / (count + 1));
     let mut station = rng.below(gap) as u64;
     let mut next = || {
         let this = station;
@@ -33,13 +39,20 @@ fn stations(rng: &mut Rng, count: usize) -> Vec<u64> {
     (0..count).map(|_| next()).collect()
 }
 
+/// Names that meet under one edition and not under the other.
+const VAN: [&str; 4] = ["Van Chi", "VON CHI", "Van Key", "Von Shea"];
+
 /// A pool of names that both books are drawn from: gauges, and what the letter rules ask for.
 pub fn pool(rng: &mut Rng, count: usize) -> Vec<String> {
     let mut pool = gauges(rng, 1000);
     pool.truncate(count / 2);
     while pool.len() < count {
         let fragments = rng.below(6);
-        pool.push((0..fragments).map(|_| rng.pick(FRAGMENTS)).collect());
+        pool.push(if rng.once_in(4) {
+            rng.pick(&VAN).to_string()
+        } else {
+            (0..fragments).map(|_| rng.pick(FRAGMENTS)).collect()
+        });
     }
     pool
 }
@@ -49,9 +62,14 @@ pub fn named(rng: &mut Rng, pool: &[String], count: usize) -> Vec<(u64, String)>
     stations(rng, count).into_iter().map(|station| (station, pool[rng.below(pool.len())].clone())).collect()
 }
 
-/// The book of such records under a limit, by the library.
+/// A new book of such records under a limit, by the library.
 pub fn book(limit: Option<u64>, records: &[(u64, String)]) -> Book {
-    let mut book = Book::new(limit).unwrap();
+    book_in(plain::NEW_EDITION, limit, records)
+}
+
+/// The same under an edition, from a header that the plain writer makes.
+pub fn book_in(edition: u32, limit: Option<u64>, records: &[(u64, String)]) -> Book {
+    let mut book = Book::from_bytes(Writer::in_edition(edition, limit).unwrap().into_bytes()).unwrap();
     for (station, name) in records {
         book.add(*station, name).unwrap();
     }
@@ -70,16 +88,17 @@ fn any_code(rng: &mut Rng) -> Vec<u8> {
 }
 
 /// A book of so many records whose codes are wrong for their names.
-pub fn coded(rng: &mut Rng, limit: Option<u64>, count: usize) -> Vec<u8> {
-    let mut writer = Writer::new(limit).unwrap();
+pub fn coded(rng: &mut Rng, edition: u32, limit: Option<u64>, count: usize) -> Vec<u8> {
+    let mut writer = Writer::in_edition(edition, limit).unwrap();
     for station in stations(rng, count) {
         writer.push(station, b"Weser", |_, _| (any_code(rng), any_code(rng))).unwrap();
     }
     writer.into_bytes()
 }
 
-/// Both codes of a name that is encoded afresh.
-pub fn keys(name: &str, limit: Option<u64>) -> [String; 2] {
-    let result = DoubleMetaphone::new(limit.map(|limit| limit as usize)).double_metaphone(name).unwrap();
+/// Both codes of a name that is encoded afresh by an edition.
+pub fn keys(edition: u32, name: &str, limit: Option<u64>) -> [String; 2] {
+    let encoder = DoubleMetaphone::new(limit.map(|limit| limit as usize));
+    let result = encoder.in_edition(Edition::try_from(u64::from(edition)).unwrap()).double_metaphone(name).unwrap();
     [result.primary().to_string(), result.alternate().to_string()]
 }

@@ -1,12 +1,13 @@
 //! What the join is for: one office keys its gauges at four, another at six, and the stored keys of one gauge differ.
+use crate::draw;
 use crate::names::by_names;
 use crate::witness::BOTH;
-use simmerquilt::{Book, Choice, Pair};
+use simmerquilt::{Book, Choice, JoinRefusal, Pair};
 use std::path::Path;
 
-fn stored(limit: u64) -> Book {
+fn stored(name: &str) -> Book {
     let folder = Path::new(env!("CARGO_MANIFEST_DIR")).join("../../tests/books");
-    Book::load(folder.join(format!("gauges-{limit}.book"))).unwrap()
+    Book::load(folder.join(format!("{name}.book"))).unwrap()
 }
 
 /// The pairs whose stored primary keys are equal, as an office would compare them.
@@ -21,7 +22,7 @@ fn by_stored_keys(first: &Book, second: &Book) -> Vec<Pair> {
 
 #[test]
 fn the_stored_lists_meet_by_the_join() {
-    let (four, six) = (stored(4), stored(6));
+    let (four, six) = (stored("gauges-4"), stored("gauges-6"));
     let pairs = four.join(&six, Choice::Primary).unwrap();
     let own = |pairs: &[Pair]| pairs.iter().filter(|pair| pair.first == pair.second).count();
     // Both books have the same gauges, but few have a key that four bytes hold whole.
@@ -32,12 +33,37 @@ fn the_stored_lists_meet_by_the_join() {
 
 #[test]
 fn the_stored_lists_meet_as_their_names_do() {
-    let (four, six) = (stored(4), stored(6));
+    let (four, six) = (stored("gauges-4"), stored("gauges-6"));
     for (first, second) in [(&four, &six), (&six, &four), (&four, &four), (&six, &six)] {
         for choice in BOTH {
             assert_eq!(first.join(second, choice).unwrap(), by_names(first, second, choice));
         }
     }
+}
+
+#[test]
+fn the_stored_lists_of_different_editions_are_not_joined() {
+    let (four, six, new) = (stored("gauges-4"), stored("gauges-6"), stored("gauges-4-edition-2"));
+    for choice in BOTH {
+        for old in [&four, &six] {
+            assert_eq!(old.join(&new, choice), Err(JoinRefusal::EditionsDiffer));
+            assert_eq!(new.join(old, choice), Err(JoinRefusal::EditionsDiffer));
+        }
+        assert_eq!(new.join(&new, choice).unwrap(), by_names(&new, &new, choice));
+    }
+}
+
+#[test]
+fn van_chi_meets_as_its_edition_sounds() {
+    let met = |edition, choice| {
+        let book = |name: &str| draw::book_in(edition, Some(4), &[(10, name.to_string())]);
+        ["Van Key", "Van Shea"].map(|other| book("Van Chi").join(&book(other), choice).unwrap().len())
+    };
+    assert_eq!(met(1, Choice::Primary), [0, 1]);
+    assert_eq!(met(2, Choice::Primary), [1, 0]);
+    // The alternate code is the same by both.
+    assert_eq!(met(1, Choice::Alternate), [1, 0]);
+    assert_eq!(met(2, Choice::Alternate), [1, 0]);
 }
 
 fn book(limit: u64, names: &[(u64, &str)]) -> Book {

@@ -1,4 +1,4 @@
-//! The pairs themselves, of books drawn at every pair of cuts.
+//! The pairs themselves, of books of either edition drawn at every pair of cuts.
 use crate::draw;
 use crate::witness::{same, Case, BOTH};
 use plain::Writer;
@@ -14,9 +14,10 @@ fn books_of_right_codes_at_all_pairs_of_cuts() {
         let rng = &mut Rng::new(seed, 1);
         let pool = draw::pool(rng, 40);
         for (one, other) in draw::limits() {
+            let edition = draw::edition(rng);
             let [first, second] = [one, other].map(|limit| {
                 let count = draw::size(rng);
-                draw::book(limit, &draw::named(rng, &pool, count))
+                draw::book_in(edition, limit, &draw::named(rng, &pool, count))
             });
             same(first.as_bytes(), second.as_bytes(), &mut joiner);
         }
@@ -29,9 +30,10 @@ fn books_of_any_codes_at_all_pairs_of_cuts() {
     for seed in 0..SEEDS {
         let rng = &mut Rng::new(seed, 2);
         for (one, other) in draw::limits() {
+            let edition = draw::edition(rng);
             let [first, second] = [one, other].map(|limit| {
                 let count = draw::size(rng);
-                draw::coded(rng, limit, count)
+                draw::coded(rng, edition, limit, count)
             });
             same(&first, &second, &mut joiner);
         }
@@ -44,14 +46,15 @@ fn some_hundred_records_at_all_pairs_of_cuts() {
     let rng = &mut Rng::new(1, 3);
     let pool = draw::pool(rng, 200);
     for (one, other) in draw::limits() {
+        let edition = draw::edition(rng);
         let [first, second] = [one, other].map(|limit| {
             let count = 250 + rng.below(100);
-            draw::book(limit, &draw::named(rng, &pool, count))
+            draw::book_in(edition, limit, &draw::named(rng, &pool, count))
         });
         same(first.as_bytes(), second.as_bytes(), &mut joiner);
         let [first, second] = [one, other].map(|limit| {
             let count = 250 + rng.below(100);
-            draw::coded(rng, limit, count)
+            draw::coded(rng, edition, limit, count)
         });
         same(&first, &second, &mut joiner);
     }
@@ -74,7 +77,7 @@ fn a_book_with_itself() {
     let pool = draw::pool(rng, 40);
     for limit in draw::LIMITS {
         for count in [0, 1, 7, 200] {
-            let book = draw::book(limit, &draw::named(rng, &pool, count));
+            let book = draw::book_in(draw::edition(rng), limit, &draw::named(rng, &pool, count));
             same(book.as_bytes(), book.as_bytes(), &mut Joiner::new());
             for choice in BOTH {
                 let pairs = book.join(&book, choice).unwrap();
@@ -91,7 +94,8 @@ fn pairs_come_once_and_in_order() {
     let rng = &mut Rng::new(1, 6);
     let pool = draw::pool(rng, 30);
     for (one, other) in draw::limits() {
-        let [first, second] = [one, other].map(|limit| draw::book(limit, &draw::named(rng, &pool, 60)));
+        let edition = draw::edition(rng);
+        let [first, second] = [one, other].map(|limit| draw::book_in(edition, limit, &draw::named(rng, &pool, 60)));
         for choice in BOTH {
             let pairs = first.join(&second, choice).unwrap();
             assert!(pairs.windows(2).all(|two| two[0] < two[1]));

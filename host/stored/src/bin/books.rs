@@ -1,18 +1,21 @@
-//! Makes the stored books tests/books/gauges-N.book and their printed forms gauges-N.txt from the names of examples/gauges.txt, at the
-//! limits 4 and 6. The codes are the unchanged Rust's and the bytes a plain writer's, so that the proved library has no part in them.
+//! Makes the stored books of tests/books and their printed forms from the names of examples/gauges.txt: gauges-4 and gauges-6 of
+//! edition 1, at the limits 4 and 6, as books were made before there was an edition 2, and gauges-4-edition-2. The codes are the
+//! unchanged Rust's, or those of its copy that reads as edition 2 does, and the bytes a plain writer's, so that the proved library has
+//! no part in them.
 //!
 //! A printed book has its header in the first line, a record a line (station, tab, name, tab, primary code, tab, alternate code), and
 //! in the last line how many there are.
 //!
 //!     cargo run --offline --release -p stored --bin books
-use oracle::{Oracle, NOT_AT_HAND};
+use oracle::{Codes, Oracle, NOT_AT_HAND};
 use plain::{Reader, Writer};
 use std::fs;
 use std::io;
 use std::path::Path;
 use std::process::exit;
 
-const LIMITS: [u64; 2] = [4, 6];
+/// The name, the edition and the limit of each book.
+const BOOKS: [(&str, u32, u64); 3] = [("gauges-4", 1, 4), ("gauges-6", 1, 6), ("gauges-4-edition-2", 2, 4)];
 
 /// Rising stations with gaps, a quarter of them in each width from one group to four, from the least of a width to the largest.
 fn stations(count: usize) -> Vec<u64> {
@@ -26,10 +29,19 @@ fn stations(count: usize) -> Vec<u64> {
     stations
 }
 
-fn book(oracle: &Oracle, names: &[&str], limit: u64) -> Vec<u8> {
-    let mut writer = Writer::new(Some(limit)).expect("the limit is small");
+fn codes(oracle: &Oracle, name: &str, edition: u32, limit: u64) -> Codes {
+    let limit = Some(limit as usize);
+    if edition == 1 {
+        oracle.codes(name, limit)
+    } else {
+        oracle.edition2(name, limit).0
+    }
+}
+
+fn book(oracle: &Oracle, names: &[&str], edition: u32, limit: u64) -> Vec<u8> {
+    let mut writer = Writer::in_edition(edition, Some(limit)).expect("the edition is known and the limit is small");
     for (station, name) in stations(names.len()).into_iter().zip(names) {
-        let codes = oracle.codes(name, Some(limit as usize));
+        let codes = codes(oracle, name, edition, limit);
         writer.push(station, name.as_bytes(), |_, _| (codes.primary, codes.alternate)).expect("a good record");
     }
     writer.into_bytes()
@@ -56,9 +68,9 @@ fn main() -> io::Result<()> {
     let root = Path::new(env!("CARGO_MANIFEST_DIR")).join("../..");
     let list = fs::read_to_string(root.join("examples/gauges.txt"))?;
     let names: Vec<&str> = list.lines().collect();
-    for limit in LIMITS {
-        let book = book(&oracle, &names, limit);
-        let path = root.join(format!("tests/books/gauges-{limit}"));
+    for (name, edition, limit) in BOOKS {
+        let book = book(&oracle, &names, edition, limit);
+        let path = root.join("tests/books").join(name);
         fs::write(path.with_extension("txt"), printed(&book))?;
         fs::write(path.with_extension("book"), book)?;
     }

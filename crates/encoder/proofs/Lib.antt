@@ -8,6 +8,7 @@
 --     Demand2    `accepted`, `walked`: demand 2
 --     Demand3    `unlimited`, `limited`, `limited-one`, `reaches`: demand 3
 --     Editions   `seven`, `as-encoded`: an edition by its number
+--     Agree      `code-agrees`, `answer-agrees`: where the editions agree
 --     Room       with room for any code neither buffer is too short
 --     Part       `chosen-code`: after an accepted call the part handed back is the chosen code
 --     NoChoice   no public function's promise leaves a choice
@@ -20,6 +21,7 @@ pub mod Table
 pub mod Demand2
 pub mod Demand3
 pub mod Editions
+pub mod Agree
 pub mod Room
 pub mod Part
 pub mod NoChoice

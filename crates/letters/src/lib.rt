@@ -1,6 +1,5 @@
 // One visit: a match on the visited byte, whose promise is the definition's visit.
 use rules::Add;
-use rules::Edition;
 use rules::Visit;
 ghost use mathlib.Core.Path.{_≡_};
 ghost use mathlib.Core.Bool.{cond};
@@ -13,9 +12,10 @@ ghost use Rattle.rules.specs.Plain.{casesVowel};
 ghost use Rattle.rules.specs.Table.{visit};
 ghost use Rattle.rules.specs.declared.Add.the-variants.{One};
 
-// What the byte at `at` adds to the codes and passes over; where no byte stands, nothing.
-pub fn visit_at(w: &[u8], at: usize, slavo: bool, edition: Edition) -> Visit
-    ensures { λ r. ⌜ r ≡ visit (upper (now (w .entry))) at (mode slavo edition) ⌝ }
+// What the byte at `at` adds to the codes and passes over; where no byte stands, nothing. `slavo` is the word's mark, and `second` says
+// that the rules are edition 2's.
+pub fn visit_at(w: &[u8], at: usize, slavo: bool, second: bool) -> Visit
+    ensures { λ r. ⌜ r ≡ visit (upper (now (w .entry))) at (mode slavo second) ⌝ }
 {
     if w.len() <= at {
         return Visit::both(Add::Nothing, 0);
@@ -24,7 +24,7 @@ pub fn visit_at(w: &[u8], at: usize, slavo: bool, edition: Edition) -> Visit
         b'A' | b'a' | b'E' | b'e' | b'I' | b'i' | b'O' | b'o' | b'U' | b'u' | b'Y' | b'y' =>
             handle_vowel(w, at),
         b'B' | b'b' => handle_plain(w, at, b'B', b'P'),
-        b'C' | b'c' => letters_c::handle_c(w, at, edition),
+        b'C' | b'c' => letters_c::handle_c(w, at, second),
         b'D' | b'd' => letters_d_l::d::handle_d(w, at),
         b'F' | b'f' => handle_plain(w, at, b'F', b'F'),
         b'G' | b'g' => letters_g::handle_g(w, at, slavo),

@@ -1,7 +1,7 @@
 // The rule of C: one function for each branch of a letter, and one for each compound test. What a letter's rule promises
-// is the first of its cases that holds; a branch's function promises its tree (specs/Trees.antt), a test's its condition.
+// is the first of its cases that holds; a branch's function promises its tree (specs/Trees.antt), a test's its condition. `second`
+// says that the rules are edition 2's.
 use rules::Add;
-use rules::Edition;
 use rules::Visit;
 ghost use mathlib.Core.Path.{_≡_};
 ghost use Rattle.windows.specs.Text.{upper};
@@ -11,11 +11,11 @@ ghost use Rattle.rules.specs.CasesC.{casesC, conditionC0, ach, caesar, chae, co
 ghost use Rattle.rules.specs.Tree.{run};
 ghost use Rattle.letters_c.specs.Trees.{treeCH, treeCC, treeCNext, treeCLast, treeCBeforeH, treeCBefore};
 
-pub fn handle_c(w: &[u8], at: usize, edition: Edition) -> Visit
-    ensures { λ r. ⌜ r ≡ first casesC (upper (now (w .entry))) at (edited edition) ⌝ }
+pub fn handle_c(w: &[u8], at: usize, second: bool) -> Visit
+    ensures { λ r. ⌜ r ≡ first casesC (upper (now (w .entry))) at (edited second) ⌝ }
 {
     if windows::ahead(w, at, 1, 1, b"H") {
-        handle_c_before_h(w, at, edition)
+        handle_c_before_h(w, at, second)
     } else if windows::ahead(w, at, 1, 1, b" ACEGIKQYZ") {
         handle_c_before(w, at)
     } else {
@@ -23,13 +23,13 @@ pub fn handle_c(w: &[u8], at: usize, edition: Edition) -> Visit
     }
 }
 
-fn handle_c_before_h(w: &[u8], at: usize, edition: Edition) -> Visit
-    ensures { λ r. ⌜ r ≡ run treeCBeforeH (upper (now (w .entry))) at (edited edition) ⌝ }
+fn handle_c_before_h(w: &[u8], at: usize, second: bool) -> Visit
+    ensures { λ r. ⌜ r ≡ run treeCBeforeH (upper (now (w .entry))) at (edited second) ⌝ }
 {
     if condition_c0(w, at) {
         Visit::both(Add::One(b'K'), 1)
     } else if windows::ahead(w, at, 0, 2, b"CH") {
-        handle_ch(w, at, edition)
+        handle_ch(w, at, second)
     } else {
         Visit::both(Add::One(b'K'), 0)
     }
@@ -153,13 +153,13 @@ fn is_hard(w: &[u8], at: usize) -> bool
     }
 }
 
-fn handle_ch(w: &[u8], at: usize, edition: Edition) -> Visit
-    ensures { λ r. ⌜ r ≡ run treeCH (upper (now (w .entry))) at (edited edition) ⌝ }
+fn handle_ch(w: &[u8], at: usize, second: bool) -> Visit
+    ensures { λ r. ⌜ r ≡ run treeCH (upper (now (w .entry))) at (edited second) ⌝ }
 {
     if is_chae(w, at) {
         // "Michael"
         Visit::split(Add::One(b'K'), Add::One(b'X'), 1)
-    } else if is_greek(w, at, edition) {
+    } else if is_greek(w, at, second) {
         // Greek roots ("chemistry", "chorus"), Germanic, or otherwise ch for the kh sound
         Visit::both(Add::One(b'K'), 1)
     } else if 0 < at {
@@ -183,13 +183,13 @@ fn is_chae(w: &[u8], at: usize) -> bool
     }
 }
 
-fn is_greek(w: &[u8], at: usize, edition: Edition) -> bool
-    ensures { λ r. ⌜ r ≡ holds (conditionCH0 or conditionCH1) (upper (now (w .entry))) at (edited edition) ⌝ }
+fn is_greek(w: &[u8], at: usize, second: bool) -> bool
+    ensures { λ r. ⌜ r ≡ holds (conditionCH0 or conditionCH1) (upper (now (w .entry))) at (edited second) ⌝ }
 {
     if condition_ch0(w, at) {
         true
     } else {
-        condition_ch1(w, at, edition)
+        condition_ch1(w, at, second)
     }
 }
 
@@ -202,10 +202,10 @@ fn condition_ch0(w: &[u8], at: usize) -> bool
         & !windows::front(w, 5, b"CHORE")
 }
 
-fn condition_ch1(w: &[u8], at: usize, edition: Edition) -> bool
-    ensures { λ r. ⌜ r ≡ holds conditionCH1 (upper (now (w .entry))) at (edited edition) ⌝ }
+fn condition_ch1(w: &[u8], at: usize, second: bool) -> bool
+    ensures { λ r. ⌜ r ≡ holds conditionCH1 (upper (now (w .entry))) at (edited second) ⌝ }
 {
-    (is_van_or_von(w, at, edition) | windows::front(w, 3, b"SCH"))
+    (is_van_or_von(w, at, second) | windows::front(w, 3, b"SCH"))
         | (1 < at) & windows::behind(w, at, 2, 6, b"ORCHESARCHITORCHID")
         | (1 < at) & windows::ahead(w, at, 2, 1, b"TS")
         | is_kh_before(w, at)
@@ -219,12 +219,13 @@ fn is_kh_before(w: &[u8], at: usize) -> bool
 }
 
 // Edition 1 asks for four bytes with texts of three, which never holds: kept as the Rust has it.
-fn is_van_or_von(w: &[u8], at: usize, edition: Edition) -> bool
-    ensures { λ r. ⌜ r ≡ holds vanOrVon (upper (now (w .entry))) at (edited edition) ⌝ }
+fn is_van_or_von(w: &[u8], at: usize, second: bool) -> bool
+    ensures { λ r. ⌜ r ≡ holds vanOrVon (upper (now (w .entry))) at (edited second) ⌝ }
 {
-    match edition {
-        Edition::E1 => windows::window_is(w, 0, 4, b"VAN") | windows::window_is(w, 0, 4, b"VON"),
-        Edition::E2 => windows::front(w, 4, b"VAN VON "),
+    if second {
+        windows::front(w, 4, b"VAN VON ")
+    } else {
+        windows::window_is(w, 0, 4, b"VAN") | windows::window_is(w, 0, 4, b"VON")
     }
 }
 

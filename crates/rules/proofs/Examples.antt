@@ -17,7 +17,6 @@ use Rattle.rules.specs.CasesG.{casesG}
 use Rattle.rules.specs.CasesMZ.{casesM, casesP, casesR, casesT, casesW, casesX, casesZ}
 use Rattle.rules.specs.CasesS.{casesS}
 use Rattle.rules.specs.Table.{Row, rows, casesIn, visit}
-use Rattle.rules.specs.declared.Edition.the-variants.{E2}
 use Rattle.rules.specs.declared.Visit.{Visit}
 
 -- a word, a place in it, the word's Slavo-Germanic mark, and what the visit there adds to each code and passes over
@@ -122,7 +121,7 @@ examples2 =
     ∷ []
 
 unfoldable pub defined2 : Seen → Visit
-defined2 s = visit (upper (bytes (s .word))) (s .place) (edited E2)
+defined2 s = visit (upper (bytes (s .word))) (s .place) (edited true)
 
 pub as-edition-2 : map defined2 examples2 ≡ map answered examples2
 unfolding defined2 answered examples2 visit first holds rows casesIn swallows casesC casesVowel casesRest up upper isAt sees byteAt vowel vowelAt endsAfter isLong same

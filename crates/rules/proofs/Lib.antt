@@ -4,6 +4,7 @@
 --     Row        the cases of a byte, as the arms of a match on it
 --     Next       what the next byte alone settles, and a tree without it
 --     Idle       tests that no word makes matter
+--     Editions   where the editions agree
 --     Each       a fact that every case of the table has, every visit has
 --     Bound      an addition has at most two bytes, and at most three bytes are passed over
 --     Front      at place 0 a second byte is added only where a byte that stands there is passed over
@@ -15,6 +16,7 @@ pub mod Tree
 pub mod Row
 pub mod Next
 pub mod Idle
+pub mod Editions
 pub mod Each
 pub mod Bound
 pub mod Front

@@ -4,7 +4,7 @@ use mathlib.Core.Path.{_≡_, refl, ap, ap₂}
 use mathlib.Core.Bool.{Bool, true, false, false≢true, not, _&&_, _||_}
 use mathlib.Core.List.{List, [], _∷_}
 use Rattle.windows.proofs.Facts.{both}
-use Rattle.rules.specs.Cond.{Cond, Mode, plain, marked, edited, isTwo, always, window, byte, vowel, place, past, below, left, long, slavo, edition2, non, _&_, _or_, holds}
+use Rattle.rules.specs.Cond.{Cond, Mode, plain, marked, edited, always, window, byte, vowel, place, past, below, left, long, slavo, edition2, non, _&_, _or_, holds}
 use Rattle.rules.specs.Case.{Case, first}
 use Rattle.rules.specs.Tree.{Tree, say, ask, run}
 
@@ -36,7 +36,7 @@ asksCases a b (c ∷ cs) = asks a b (c .when) && asksCases a b cs
 -- two modes that it cannot tell apart
 pub record Same (a b : Bool) (m n : Mode) : Type 0 where
   pub mark : a ≡ true → m .mark ≡ n .mark
-  pub edition : b ≡ true → m .edition ≡ n .edition
+  pub second : b ≡ true → m .second ≡ n .second
 
 -- ---- the law, of conditions, trees and lists of cases
 module _ (a b : Bool) (u : List ℕ) (p : ℕ) (m n : Mode) (s : Same a b m n) where
@@ -52,7 +52,7 @@ module _ (a b : Bool) (u : List ℕ) (p : ℕ) (m n : Mode) (s : Same a b m n) w
   same-holds (left k) f = refl
   same-holds (long k) f = refl
   same-holds slavo f = s .mark f
-  same-holds edition2 f = ap isTwo (s .edition f)
+  same-holds edition2 f = s .second f
   same-holds (non c) f = ap not (same-holds c f)
   same-holds (c & d) f = let h = both (asks a b c) (asks a b d) f in ap₂ _&&_ (same-holds c (h .0)) (same-holds d (h .1))
   same-holds (c or d) f = let h = both (asks a b c) (asks a b d) f in ap₂ _||_ (same-holds c (h .0)) (same-holds d (h .1))
@@ -74,13 +74,13 @@ module _ (a b : Bool) (u : List ℕ) (p : ℕ) (m n : Mode) (s : Same a b m n) w
 
 -- ---- the modes that are told: the mark alone, the edition alone, neither
 pub told-mark : (m : Mode) → Same true false (marked (m .mark)) m
-told-mark m = record { mark = λ e. refl; edition = λ e. absurd (false≢true e) }
+told-mark m = record { mark = λ e. refl; second = λ e. absurd (false≢true e) }
 
-pub told-edition : (m : Mode) → Same false true (edited (m .edition)) m
-told-edition m = record { mark = λ e. absurd (false≢true e); edition = λ e. refl }
+pub told-edition : (m : Mode) → Same false true (edited (m .second)) m
+told-edition m = record { mark = λ e. absurd (false≢true e); second = λ e. refl }
 
 pub told-none : (m n : Mode) → Same false false m n
-told-none m n = record { mark = λ e. absurd (false≢true e); edition = λ e. absurd (false≢true e) }
+told-none m n = record { mark = λ e. absurd (false≢true e); second = λ e. absurd (false≢true e) }
 
 abbrev pub free : Cond → Bool
 free c = asks false false c

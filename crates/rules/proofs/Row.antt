@@ -121,8 +121,8 @@ module _ (w : List ℕ) (p : ℕ) (m : Mode) (v : Visit) where
   pub arm-marked : (b : ℕ) → asksCases true false (casesIn rows b) ≡ true → x ≡ b → v ≡ first (casesIn rows b) (upper w) p (marked (m .mark)) → v ≡ visit (upper w) p m
   arm-marked b f k h = arm true false (marked (m .mark)) (told-mark m) b f k h
 
-  pub arm-edited : (b : ℕ) → asksCases false true (casesIn rows b) ≡ true → x ≡ b → v ≡ first (casesIn rows b) (upper w) p (edited (m .edition)) → v ≡ visit (upper w) p m
-  arm-edited b f k h = arm false true (edited (m .edition)) (told-edition m) b f k h
+  pub arm-edited : (b : ℕ) → asksCases false true (casesIn rows b) ≡ true → x ≡ b → v ≡ first (casesIn rows b) (upper w) p (edited (m .second)) → v ≡ visit (upper w) p m
+  arm-edited b f k h = arm false true (edited (m .second)) (told-edition m) b f k h
 
   pub arm-free : (b : ℕ) → asksCases false false (casesIn rows b) ≡ true → x ≡ b → v ≡ first (casesIn rows b) (upper w) p plain → v ≡ visit (upper w) p m
   arm-free b f k h = arm false false plain (told-none plain m) b f k h

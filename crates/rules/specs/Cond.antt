@@ -46,27 +46,27 @@ pub data Cond : Type 0 where
   _&_ : Cond → Cond → Cond
   _or_ : Cond → Cond → Cond
 
--- what a rule is told besides the word and the place: the Slavo-Germanic mark and the edition
+-- what a rule is told besides the word and the place: the Slavo-Germanic mark, and whether the edition is the second
 pub record Mode : Type 0 where
   pub mark : Bool
-  pub edition : Edition
+  pub second : Bool
 
-abbrev pub mode : Bool → Edition → Mode
-mode b e = record { mark = b; edition = e }
+abbrev pub mode : Bool → Bool → Mode
+mode b e = record { mark = b; second = e }
 
 -- for a rule that asks for the mark alone, for the edition alone, and for neither
 abbrev pub marked : Bool → Mode
-marked b = mode b E1
+marked b = mode b false
 
-abbrev pub edited : Edition → Mode
+abbrev pub edited : Bool → Mode
 edited e = mode false e
 
 abbrev pub plain : Mode
-plain = mode false E1
+plain = mode false false
 
-abbrev pub isTwo : Edition → Bool
-isTwo E1 = false
-isTwo E2 = true
+abbrev pub isSecond : Edition → Bool
+isSecond E1 = false
+isSecond E2 = true
 
 -- the question `f` of a place, asked at a spot; one before the front answers no
 abbrev pub at : Spot → List ℕ → ℕ → (ℕ → Bool) → Bool
@@ -87,7 +87,7 @@ holds (below k) u p m = ltb p k
 holds (left k) u p m = endsAfter u p k
 holds (long n) u p m = isLong u n
 holds slavo u p m = m .mark
-holds edition2 u p m = isTwo (m .edition)
+holds edition2 u p m = m .second
 holds (non c) u p m = not (holds c u p m)
 holds (c & d) u p m = holds c u p m && holds d u p m
 holds (c or d) u p m = holds c u p m || holds d u p m

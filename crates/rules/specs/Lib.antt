@@ -10,6 +10,7 @@
 --     Table     the table of all, and the visit
 --     Kept      what every visit keeps: short additions, and at place 0 shorter ones
 --     Agree     how far a rule can see: two words that agree where a visit can look
+--     Dutch     the words whose keys may differ between the editions
 --     Idle      conditions without a test that no word makes matter
 --     Tree      for the proofs: rules in the shape of their code
 pub mod Cond
@@ -23,5 +24,6 @@ pub mod CasesS
 pub mod Table
 pub mod Kept
 pub mod Agree
+pub mod Dutch
 pub mod Idle
 pub mod Tree

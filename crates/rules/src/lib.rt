@@ -1,12 +1,24 @@
 // What a letter rule answers: an addition for each code and an advance. The rules themselves are data, in specs/.
 ghost use mathlib.Core.Path.{_≡_};
 ghost use mathlib.Core.Bool.{cond};
+ghost use Rattle.rules.specs.Cond.{isSecond};
 ghost use Rattle.rules.specs.Case.{answer};
 
 // The editions of the rules: the first is the Rust's, the second reads one test of C otherwise (specs/CasesC.antt).
 pub enum Edition {
     E1,
     E2,
+}
+
+impl Edition {
+    pub fn is_second(self) -> bool
+        ensures { λ r. ⌜ r ≡ isSecond self ⌝ }
+    {
+        match self {
+            Edition::E1 => false,
+            Edition::E2 => true,
+        }
+    }
 }
 
 // What a visit adds to one code.

@@ -13,7 +13,7 @@ use lib.Seq.{getD-take, getD-drop}
 use Rattle.windows.specs.Text.{bytes, up, upper, same}
 use Rattle.windows.specs.Window.{isAt, sees, byteAt, stepBack}
 use Rattle.windows.proofs.Facts.{both, no, isAt-true}
-use Rattle.rules.specs.Cond.{mode, holds}
+use Rattle.rules.specs.Cond.{mode, isSecond, holds}
 use Rattle.rules.specs.Case.{adds, first}
 use Rattle.rules.specs.Plain.{swallows}
 use Rattle.rules.specs.CasesMZ.{casesX, casesZ}
@@ -126,7 +126,7 @@ back-sees-no u p k n j y ts l g d = back-no p k (λ (q : ℕ). sees u q n ts) (�
 -- ---- the visits
 -- an X behind place 0 that no U stands before, and no C or X behind, adds KS
 x-visit : (ed : Edition) (u : List ℕ) (k x y : ℕ) → getD u (suc k) 0 ≡ 88 → getD u (suc (suc k)) 0 ≡ x → differ x 0 (map bytes ("C" ∷ "X" ∷ [])) ≡ true
-    → getD u k 0 ≡ y → eqb y 85 ≡ false → Twofold (visit u (suc k) (mode true ed))
+    → getD u k 0 ≡ y → eqb y 85 ≡ false → Twofold (visit u (suc k) (mode true (isSecond ed)))
 unfolding visit first holds rows casesIn casesX
 x-visit ed u k x y here next d last e =
     let n : sees u (suc k + 1) 1 (map bytes ("C" ∷ "X" ∷ [])) ≡ false =
@@ -140,7 +140,7 @@ x-visit ed u k x y here next d last e =
 
 -- under the mark a Z behind place 0 that no T stands before, and no H or Z behind, adds TS to the alternate code
 z-visit : (ed : Edition) (u : List ℕ) (k x : ℕ) → getD u (suc k) 0 ≡ 90 → getD u (suc (suc k)) 0 ≡ x → eqb x 72 ≡ false → eqb x 90 ≡ false
-    → getD u k 0 ≡ 88 → Twofold (visit u (suc k) (mode true ed))
+    → getD u k 0 ≡ 88 → Twofold (visit u (suc k) (mode true (isSecond ed)))
 unfolding visit first holds rows casesIn casesZ
 z-visit ed u k x here next h z last =
     let s : suc k + 1 ≡ suc (suc k) = omega arith in
@@ -151,7 +151,7 @@ z-visit ed u k x here next h z last =
     rw here (simp (no-h, no-z, no-t, p, or-true) (record { over = refl; added = refl }))
 
 -- the K at place 0 that no K stands behind adds K
-k-visit : (ed : Edition) (u : List ℕ) (x : ℕ) → getD u 0 0 ≡ 75 → getD u 1 0 ≡ x → eqb x 75 ≡ false → visit u 0 (mode true ed) ≡ adds "K" "K" 0
+k-visit : (ed : Edition) (u : List ℕ) (x : ℕ) → getD u 0 0 ≡ 75 → getD u 1 0 ≡ x → eqb x 75 ≡ false → visit u 0 (mode true (isSecond ed)) ≡ adds "K" "K" 0
 unfolding visit first holds rows casesIn swallows
 k-visit ed u x here next e =
     let n : byteAt u (0 + 1) 75 ≡ false = byte-no u (0 + 1) 75 x next e in
@@ -171,24 +171,24 @@ starts : (n : ℕ) → startOf (kxz n) ≡ 0
 unfolding startOf
 starts n = rw (upper-kxz n) (simp (no-silent n (first-xz n)))
 
-k-first : (ed : Edition) (n : ℕ) → (getD (xz n) 0 0 ≡ 88) ⊎ (getD (xz n) 0 0 ≡ 0) → visit (kxz n) 0 (mode true ed) ≡ adds "K" "K" 0
+k-first : (ed : Edition) (n : ℕ) → (getD (xz n) 0 0 ≡ 88) ⊎ (getD (xz n) 0 0 ≡ 0) → visit (kxz n) 0 (mode true (isSecond ed)) ≡ adds "K" "K" 0
 k-first ed n (inl e) = k-visit ed (kxz n) 88 refl e refl
 k-first ed n (inr e) = k-visit ed (kxz n) 0 refl e refl
 
-twofold : (ed : Edition) (n k : ℕ) → XHere n k ⊎ ZHere n k → Twofold (visit (kxz n) (suc k) (mode true ed))
+twofold : (ed : Edition) (n k : ℕ) → XHere n k ⊎ ZHere n k → Twofold (visit (kxz n) (suc k) (mode true (isSecond ed)))
 twofold ed n k (inl x) = go (x .next)
   where
-    go : (getD (xz n) (suc k) 0 ≡ 90) ⊎ (getD (xz n) (suc k) 0 ≡ 0) → Twofold (visit (kxz n) (suc k) (mode true ed))
+    go : (getD (xz n) (suc k) 0 ≡ 90) ⊎ (getD (xz n) (suc k) 0 ≡ 0) → Twofold (visit (kxz n) (suc k) (mode true (isSecond ed)))
     go (inl e) = x-visit ed (kxz n) k 90 _ (x .here) e refl refl (x .last)
     go (inr e) = x-visit ed (kxz n) k 0 _ (x .here) e refl refl (x .last)
 twofold ed n k (inr z) = go (z .next)
   where
-    go : (getD (xz n) (suc k) 0 ≡ 88) ⊎ (getD (xz n) (suc k) 0 ≡ 0) → Twofold (visit (kxz n) (suc k) (mode true ed))
+    go : (getD (xz n) (suc k) 0 ≡ 88) ⊎ (getD (xz n) (suc k) 0 ≡ 0) → Twofold (visit (kxz n) (suc k) (mode true (isSecond ed)))
     go (inl e) = z-visit ed (kxz n) k 88 (z .here) e refl refl (z .last)
     go (inr e) = z-visit ed (kxz n) k 0 (z .here) e refl refl (z .last)
 
 -- the rule of such a word, which is in capitals and has the mark
-rule-is : (ed : Edition) (n p : ℕ) → ruleOf ed (kxz n) p ≡ visit (kxz n) p (mode true ed)
+rule-is : (ed : Edition) (n p : ℕ) → ruleOf ed (kxz n) p ≡ visit (kxz n) p (mode true (isSecond ed))
 rule-is ed n p = rw (upper-kxz n, marks n)
 
 behind-k : (ed : Edition) (n k : ℕ) → 1 ≤ k → k < 1 + length (xz n) → Twofold (ruleOf ed (kxz n) k)

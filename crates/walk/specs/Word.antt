@@ -6,7 +6,7 @@ use mathlib.Core.Bool.{Bool, false, cond, _||_}
 use lib.ListN.{length}
 use Rattle.windows.specs.Text.{bytes, upper}
 use Rattle.windows.specs.Window.{isAt, sees}
-use Rattle.rules.specs.Cond.{mode}
+use Rattle.rules.specs.Cond.{mode, isSecond}
 use Rattle.rules.specs.Table.{visit}
 use Rattle.rules.specs.declared.Edition.{Edition}
 use Rattle.rules.specs.declared.Visit.{Visit}
@@ -42,7 +42,7 @@ startOf w = cond (sees (upper w) 0 2 silentStarts) 1 0
 
 -- the rule at the places of the word, under an edition
 abbrev pub ruleOf : Edition → List ℕ → ℕ → Visit
-ruleOf ed w p = visit (upper w) p (mode (slavoGermanic (upper w)) ed)
+ruleOf ed w p = visit (upper w) p (mode (slavoGermanic (upper w)) (isSecond ed))
 
 -- the places that are visited with no limit
 unfoldable pub visitsOf : Edition → List ℕ → List ℕ

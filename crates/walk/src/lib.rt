@@ -57,6 +57,7 @@ pub fn walk(w: &[u8], edition: Edition, limit: usize, p: &mut [u8], a: &mut [u8]
     ensures alternate { λ r. ⌜ now (a .exit) ≡ filled (limitedOf edition limit (now (w .entry)) .alternate) (now (a .entry)) ⌝ }
 {
     let slavo = mark::is_slavo_germanic(w);
+    let second = edition.is_second();
     let mut at = start_of(w);
     let mut t = Tally {
         primary: 0,
@@ -67,7 +68,7 @@ pub fn walk(w: &[u8], edition: Edition, limit: usize, p: &mut [u8], a: &mut [u8]
         if (limit <= t.primary) & (limit <= t.alternate) {
             break;
         }
-        let v = letters::visit_at(w, at, slavo, edition);
+        let v = letters::visit_at(w, at, slavo, second);
         let x = v.primary;
         let y = v.alternate;
         let over = v.over;

@@ -10,7 +10,6 @@ use Rattle.rules.specs.Cond.{plain, edited}
 use Rattle.rules.specs.Case.{first}
 use Rattle.rules.specs.CasesC.{casesC}
 use Rattle.rules.specs.Tree.{run}
-use Rattle.rules.specs.declared.Edition.{Edition}
 use Rattle.rules.specs.declared.Visit.{Visit}
 use Rattle.windows.proofs.Facts.{also}
 use Rattle.rules.proofs.Mode.{free-run}
@@ -31,7 +30,7 @@ no-end : {A : Type 0} → false ≡ true → A
 no-end e = absurd (false≢true e)
 
 -- what is left before another byte than H asks nothing of the edition
-by-other : (u : List ℕ) (p : ℕ) (e : Edition) {v : Visit} → other (getD u (p + 1) 0) ≡ true → v ≡ run treeCBefore u p plain → v ≡ first casesC u p (edited e)
+by-other : (u : List ℕ) (p : ℕ) (e : Bool) {v : Visit} → other (getD u (p + 1) 0) ≡ true → v ≡ run treeCBefore u p plain → v ≡ first casesC u p (edited e)
 unfolding treeC treeCH treeCC treeCNext treeCLast treeCBefore
 by-other u p e h i = by-next other false treeC u p (edited e) ways-C h no-end (i ∙ free-run treeCBefore refl u p plain (edited e))
 

@@ -1,57 +1,93 @@
 -- `walk::walk` meets its contract. The invariant, `Going`, says that the bytes written and those that the definition has
 -- still to come from here on are the code; the measure is what is left of the word. Assumes nothing.
-use Prim.Native.Nat.{_-_, _<_, _≤_}
-use mathlib.Core.Path.{_≡_, _∙_, ap}
-use mathlib.Core.Bool.{Bool, false, _&&_}
+use Prim.Native.Nat.{ℕ, _-_, _<_, _≤_}
+use mathlib.Core.Path.{_≡_, refl, sym, _∙_, ap, ap₂, subst}
+use mathlib.Core.Bool.{Bool, true, false, _&&_}
+use mathlib.Core.List.{List}
 use native.Mathlib.Omega.{arith}
 use borrow.Author.Needs.{needs}
 use denote.Ref.{now}
 use lib.Dec.{leb}
 use lib.ListN.{length}
 use Rattle.windows.specs.Text.{upper}
-use Rattle.rules.specs.Cond.{mode}
+use Rattle.rules.specs.Cond.{mode, isSecond}
+use Rattle.rules.specs.declared.Edition.{Edition}
+use Rattle.rules.specs.declared.Edition.the-variants.{E1, E2}
 use Rattle.rules.specs.Table.{visit}
 use Rattle.rules.proofs.Bound.{visit-short}
-use Rattle.walk.specs.Word.{ruleOf}
-use Rattle.walk.proofs.Turn.{Going, going, room-p, room-a, turned, at-end, at-limit}
+use Rattle.tally.specs.declared.Tally.{Tally}
+use Rattle.walk.specs.Word.{ruleOf, limitedOf}
+use Rattle.walk.proofs.Turn.{Written, Going, going, room-p, room-a, turned, at-end, at-limit}
 use Rattle.walk.proofs.walk.Statement.{statement}
 use Rattle.walk.proofs.walk.Tie as tie
 
+-- the loop is told the edition as a test
+abbrev editionIf : Bool → Edition
+editionIf true = E2
+editionIf false = E1
+
+told : (b : Bool) → isSecond (editionIf b) ≡ b
+told true = refl
+told false = refl
+
+told-back : (e : Edition) → editionIf (isSecond e) ≡ e
+told-back E1 = refl
+told-back E2 = refl
+
 abbrev Inv-loop : tie.InvT-loop
-Inv-loop w ed limit p₀ a₀ slavo at₀ t₀ p a at t = Going ed w p₀ a₀ p a limit at t
+Inv-loop w limit p₀ a₀ slavo second at₀ t₀ p a at t = Going (editionIf second) w p₀ a₀ p a limit at t
 
 abbrev μ-loop : tie.MeasureT-loop
-μ-loop w ed limit p₀ a₀ slavo at₀ t₀ p a at t = length w - at
+μ-loop w limit p₀ a₀ slavo second at₀ t₀ p a at t = length w - at
 
 is-slavo-germanic-requires : tie.Need-is-slavo-germanic-requires Inv-loop μ-loop
 is-slavo-germanic-requires c κs = search needs
+
+is-second-requires : tie.Need-is-second-requires Inv-loop μ-loop
+is-second-requires c κs = search needs
 
 start-of-requires : tie.Need-start-of-requires Inv-loop μ-loop
 start-of-requires c κs = search needs
 
 loop-holds : tie.Need-loop-holds Inv-loop μ-loop
 loop-holds c =
-    let a = c .before .before .before .before .before .args in
-    rw (c .start-of .ensures) (going (a .edition) (now (a .w)) (now (a .p)) (now (a .a)) (a .limit))
+    let a = c .before .before .before .before .before .before .args in
+    rw (c .start-of .ensures) (going (editionIf (c .before .is-second .result)) (now (a .w)) (now (a .p)) (now (a .a)) (a .limit))
 
 visit-at-requires : tie.Need-visit-at-requires Inv-loop μ-loop
 visit-at-requires c κs = search needs
+
+abbrev Room : Edition → ℕ → List ℕ → List ℕ → List ℕ → Type 0
+Room e limit w p a = (length (limitedOf e limit w .primary) ≤ length p) × (length (limitedOf e limit w .alternate) ≤ length a)
 
 -- from a visit back to the loop's head and to the entry
 abbrev head : tie.After-visit-at Inv-loop μ-loop → tie.At-loop Inv-loop μ-loop
 head c = c .before .before .before .before .before
 
 abbrev entry : tie.After-visit-at Inv-loop μ-loop → tie.Start Inv-loop μ-loop
-entry c = head c .before .before .before .before .before .before
+entry c = head c .before .before .before .before .before .before .before
 
 -- the place is inside the word, the visit is the rule's, and some code still takes bytes
 inside : (c : tie.After-visit-at Inv-loop μ-loop) → head c .loop .at < length (now (entry c .args .w))
 inside c = c .before .before .before .before .loop-test .taken
 
-ruled : (c : tie.After-visit-at Inv-loop μ-loop) → c .visit-at .result ≡ ruleOf (entry c .args .edition) (now (entry c .args .w)) (head c .loop .at)
+abbrev edition : tie.After-visit-at Inv-loop μ-loop → Edition
+edition c = editionIf (head c .before .before .is-second .result)
+
+ruled : (c : tie.After-visit-at Inv-loop μ-loop) → c .visit-at .result ≡ ruleOf (edition c) (now (entry c .args .w)) (head c .loop .at)
 ruled c =
     c .visit-at .ensures
-    ∙ ap (λ (m : Bool). visit (upper (now (entry c .args .w))) (head c .loop .at) (mode m (entry c .args .edition))) (head c .before .before .is-slavo-germanic .ensures)
+    ∙ ap₂ (λ (m n : Bool). visit (upper (now (entry c .args .w))) (head c .loop .at) (mode m n)) (head c .before .before .before .is-slavo-germanic .ensures) (sym (told _))
+
+-- it is the edition that was asked for
+is-asked : (b : Bool) (e : Edition) → b ≡ isSecond e → editionIf b ≡ e
+is-asked b e h = ap editionIf h ∙ told-back e
+
+-- so the room is that of its codes
+roomy : (c : tie.After-visit-at Inv-loop μ-loop) → Room (edition c) (entry c .args .limit) (now (entry c .args .w)) (now (entry c .args .p)) (now (entry c .args .a))
+roomy c =
+    subst (λ (e : Edition). Room e (entry c .args .limit) (now (entry c .args .w)) (now (entry c .args .p)) (now (entry c .args .a)))
+    (sym (is-asked _ (entry c .args .edition) (head c .before .before .is-second .ensures))) (entry c .pre)
 
 wanted : (c : tie.After-visit-at Inv-loop μ-loop) → (leb (entry c .args .limit) (head c .loop .t .primary) && leb (entry c .args .limit) (head c .loop .t .alternate)) ≡ false
 wanted c = c .before .if1 .left
@@ -59,12 +95,12 @@ wanted c = c .before .if1 .left
 put-requires : tie.Need-put-requires Inv-loop μ-loop
 put-requires c κs =
     let t = c .before in
-    room-p (head t .loop .inv) (t .visit-at .result) (ruled t) (inside t) (wanted t) (entry t .pre .0)
+    room-p (head t .loop .inv) (t .visit-at .result) (ruled t) (inside t) (wanted t) (roomy t .0)
 
 put-requires-2 : tie.Need-put-requires-2 Inv-loop μ-loop
 put-requires-2 c κs =
     let t = c .before .before .before .before .before in
-    room-a (head t .loop .inv) (t .visit-at .result) (ruled t) (inside t) (wanted t) (entry t .pre .1)
+    room-a (head t .loop .inv) (t .visit-at .result) (ruled t) (inside t) (wanted t) (roomy t .1)
 
 counted-requires : tie.Need-counted-requires Inv-loop μ-loop
 counted-requires c κs =
@@ -96,7 +132,7 @@ loop-again c =
     let one = c .before .before .before .before .before .before .before .put in
     let two = c .before .before .before .put2 in
     turned (head t .loop .inv) (t .visit-at .result) (ruled t) (inside t) (wanted t) (c .counted .result) (one .last .0) (two .last .0)
-    (c .counted .ensures) (one .ensures) (two .ensures) (entry t .pre .0) (entry t .pre .1)
+    (c .counted .ensures) (one .ensures) (two .ensures) (roomy t .0) (roomy t .1)
 
 same-length : tie.Need-same-length Inv-loop μ-loop
 same-length c = c .before .loop .inv .primary .long
@@ -104,8 +140,14 @@ same-length c = c .before .loop .inv .primary .long
 same-length-2 : tie.Need-same-length-2 Inv-loop μ-loop
 same-length-2 c = c .before .loop .inv .alternate .long
 
+as-asked : {d e : Edition} (limit : ℕ) (w p₀ a₀ : List ℕ) {p a : List ℕ} {t : Tally} → d ≡ e → Written (limitedOf d limit w) p₀ a₀ p a t → Written (limitedOf e limit w) p₀ a₀ p a t
+as-asked limit w p₀ a₀ {p = p} {a = a} {t = t} h x = subst (λ (d : Edition). Written (limitedOf d limit w) p₀ a₀ p a t) h x
+
 returns : tie.Need-returns Inv-loop μ-loop
-returns c = at-end (c .before .loop .inv) (c .loop-test .left)
+returns c =
+    let h = c .before in
+    let a = h .before .before .before .before .before .before .before .args in
+    as-asked (a .limit) (now (a .w)) (now (a .p)) (now (a .a)) (is-asked _ _ (h .before .before .is-second .ensures)) (at-end (h .loop .inv) (c .loop-test .left))
 
 same-length-3 : tie.Need-same-length-3 Inv-loop μ-loop
 same-length-3 c = c .before .before .before .before .loop .inv .primary .long
@@ -114,7 +156,10 @@ same-length-4 : tie.Need-same-length-4 Inv-loop μ-loop
 same-length-4 c = c .before .before .before .before .loop .inv .alternate .long
 
 returns-2 : tie.Need-returns-2 Inv-loop μ-loop
-returns-2 c = at-limit (c .before .before .before .before .loop .inv) (c .if1 .taken)
+returns-2 c =
+    let h = c .before .before .before .before in
+    let a = h .before .before .before .before .before .before .before .args in
+    as-asked (a .limit) (now (a .w)) (now (a .p)) (now (a .a)) (is-asked _ _ (h .before .before .is-second .ensures)) (at-limit (h .loop .inv) (c .if1 .taken))
 
 pub walk-spec : {M : Type 1} → statement M
 walk-spec =
@@ -123,6 +168,7 @@ walk-spec =
     Inv-loop
     μ-loop
     is-slavo-germanic-requires
+    is-second-requires
     start-of-requires
     loop-holds
     visit-at-requires

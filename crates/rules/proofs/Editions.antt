@@ -42,9 +42,14 @@ module _ (w : List ℕ) (no : dutch w ≡ false) (p : ℕ) (b : Bool) where
   apart : Same true false m n
   apart = record { mark = λ e. refl; second = λ e. absurd (false≢true e) }
 
-  van-same : holds vanOrVon u p m ≡ holds vanOrVon u p n
+  -- in neither edition does the word begin as the test asks
+  van-no : (second : Bool) → holds vanOrVon u p (mode b second) ≡ false
   unfolding holds
-  van-same = three-no w ∙ sym (ap (λ (x : Bool). x || false) no)
+  van-no true = simp (no, three-no w)
+  van-no false = simp (no, three-no w)
+
+  van-same : holds vanOrVon u p m ≡ holds vanOrVon u p n
+  van-same = van-no false ∙ sym (van-no true)
 
   ch1-same : holds conditionCH1 u p m ≡ holds conditionCH1 u p n
   unfolding holds

@@ -45,8 +45,8 @@ module _ (w : List ℕ) (no : dutch w ≡ false) (p : ℕ) (b : Bool) where
   -- in neither edition does the word begin as the test asks
   van-no : (second : Bool) → holds vanOrVon u p (mode b second) ≡ false
   unfolding holds
-  van-no true = simp (no, three-no w)
-  van-no false = simp (no, three-no w)
+  van-no true = simp no
+  van-no false = simp (three-no w)
 
   van-same : holds vanOrVon u p m ≡ holds vanOrVon u p n
   van-same = van-no false ∙ sym (van-no true)

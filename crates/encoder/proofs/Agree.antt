@@ -18,7 +18,6 @@ use Rattle.encoder.specs.declared.Limit.{Limit}
 use Rattle.encoder.specs.declared.Limit.the-variants.{Whole, At}
 use Rattle.encoder.specs.declared.Choice.{Choice}
 use Rattle.encoder.specs.declared.Choice.the-variants.{Primary, Alternate}
-use Rattle.encoder.specs.declared.Answer.{Answer}
 use Rattle.encoder.specs.declared.Answer.the-variants.{Coded, TooLong, NotAscii, PrimaryShort, AlternateShort}
 use Rattle.encoder.specs.Trim.{trimmed, firstHigh}
 use Rattle.encoder.specs.Encode.{wordLimit, needOf, walkOf, primaryOf, alternateOf, answerOf}

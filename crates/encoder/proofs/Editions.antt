@@ -16,7 +16,7 @@ use Rattle.encoder.specs.declared.Reply.{Reply}
 use Rattle.encoder.specs.declared.Reply.the-variants.{Answered, UnknownEdition}
 use Rattle.encoder.specs.Numbers.{numberOf}
 use Rattle.encoder.specs.Encode.{encoderOf, answerOf, Encoded}
-use Rattle.encoder.specs.Editions.{isUnknown, editionOf, replyOf, replyNumber, EncodedIn}
+use Rattle.encoder.specs.Editions.{isUnknown, editionOf, replyNumber, EncodedIn}
 use Rattle.encoder.proofs.Given.{answer-given}
 
 -- ---- what the function's two returns show

@@ -1,17 +1,16 @@
 -- A window test as a fact about lists, and back. Assumes nothing.
-use Prim.Native.Nat.{ℕ, zero, suc, _+_, _-_, _≤_, _<_}
+use Prim.Native.Nat.{ℕ, zero, suc, _+_, _-_, _/_, _^_, _≤_, _<_}
 use mathlib.Core.Path.{_≡_, refl, sym, ap, _∙_, subst}
-use mathlib.Core.Bool.{Bool, true, false, _&&_, _||_, or-true, or-false}
+use mathlib.Core.Bool.{Bool, true, false, _&&_, _||_, or-false}
 use mathlib.Core.List.{List, [], _∷_}
-use mathlib.Core.Logic.{inl, inr}
 use native.Mathlib.Omega.{arith}
 use borrow.Author.Tests.{leb-true, le-leb, eqb-true, eqb-false, eq-eqb, ne-eqb, lt-ltb, le-ltb}
+use lib.Bits.{bitAnd}
 use lib.Dec.{leb, eqb}
 use lib.ListN.{length, getD, take, drop, length-map, length-take, length-drop, List·getD-map}
 use lib.Seq.{ext-getD, getD-take, getD-drop, take-take}
 use Rattle.windows.specs.Text.{up, upper, same}
-use Rattle.windows.specs.Window.{isAt, sees, byteAt, cut, texts, among, vowel, vowelAt, endsAfter, isLong}
-use types.Run.{OneOf}
+use Rattle.windows.specs.Window.{isAt, sees, byteAt, cut, texts, vowel, vowelAt, endsAfter, isLong}
 
 pub no : (b : Bool) → (b ≡ true → ⊥) → b ≡ false
 no true h = absurd (h refl)
@@ -183,17 +182,24 @@ pub byte-there : (w : List ℕ) (p b x : ℕ) → p < length w → x ≡ up (get
 unfolding byteAt
 byte-there w p b x h e = rw e (simp (length-upper, getD-upper, lt-ltb p (length w) h))
 
--- ---- the arms of a `match` on a byte
-pub among-yes : (ks : List ℕ) (x : ℕ) → OneOf ks x → among ks x ≡ true
-among-yes [] x h = absurd h
-among-yes (k ∷ []) x h = simp (eq-eqb x k h)
-among-yes (k ∷ k′ ∷ ks) x (inl e) = simp (eq-eqb x k e)
-among-yes (k ∷ k′ ∷ ks) x (inr r) = simp (among-yes (k′ ∷ ks) x r, or-true)
+-- ---- tests that antt computes, one number after the other
+-- the answers of a test at the numbers below `n`
+abbrev pub answers : (ℕ → Bool) → ℕ → List Bool
+answers f zero = []
+answers f (suc n) = f 0 ∷ answers (λ k. f (suc k)) n
 
-pub among-no : (ks : List ℕ) (x : ℕ) → (OneOf ks x → ⊥) → among ks x ≡ false
-among-no [] x h = refl
-among-no (k ∷ []) x h = simp (ne-eqb x k h)
-among-no (k ∷ k′ ∷ ks) x h = simp (ne-eqb x k (λ e. h (inl e)), among-no (k′ ∷ ks) x (λ r. h (inr r)))
+answers-at : (f : ℕ → Bool) (n k : ℕ) → k < n → getD (answers f n) k false ≡ f k
+answers-at f zero k h = absurd (omega arith)
+answers-at f (suc n) zero h = refl
+answers-at f (suc n) (suc k) h = answers-at (λ j. f (suc j)) n k (omega arith)
+
+-- tests with the same answers are the same test
+pub same-answers : (f g : ℕ → Bool) (n k : ℕ) → answers f n ≡ answers g n → k < n → f k ≡ g k
+same-answers f g n k e h = sym (answers-at f n k h) ∙ ap (λ (l : List Bool). getD l k false) e ∙ answers-at g n k h
+
+-- the bits of `b` that `high` picks are `row`, and the low five name a bit that the mask `m` has
+abbrev pub masked : ℕ → ℕ → ℕ → ℕ → Bool
+masked high row m b = eqb (bitAnd b high) row && eqb (bitAnd (m / 2 ^ bitAnd b 31) 1) 1
 
 -- ---- the end of the word
 ends-past : (n p k : ℕ) → n ≤ k → false ≡ eqb (p + k + 1) n

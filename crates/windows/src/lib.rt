@@ -12,14 +12,19 @@ pub fn capital(b: u8) -> u8
     if (97 <= b) & (b <= 122) { b - 32 } else { b }
 }
 
-// The capital is a vowel, Y among them.
+// The vowels as a mask of letters: bit k stands for the letter whose low five bits are k.
+const VOWELS: u32 = 1 << (b'A' & 31)
+    | 1 << (b'E' & 31)
+    | 1 << (b'I' & 31)
+    | 1 << (b'O' & 31)
+    | 1 << (b'U' & 31)
+    | 1 << (b'Y' & 31);
+
+// The capital is a vowel, Y among them. Bytes 64 to 95 are the row of the capitals, and the low five bits tell the letter.
 pub fn is_vowel(b: u8) -> bool
     ensures { λ r. ⌜ r ≡ vowel b ⌝ }
 {
-    match b {
-        b'A' | b'E' | b'I' | b'O' | b'U' | b'Y' => true,
-        _ => false,
-    }
+    (b & 224 == 64) & ((VOWELS >> (b & 31)) & 1 == 1)
 }
 
 // The window of `width` bytes at `at` is this text.

@@ -1,7 +1,7 @@
 -- A window test as a fact about lists, and back. Assumes nothing.
 use Prim.Native.Nat.{ℕ, zero, suc, _+_, _-_, _/_, _^_, _≤_, _<_}
 use mathlib.Core.Path.{_≡_, refl, sym, ap, _∙_, subst}
-use mathlib.Core.Bool.{Bool, true, false, _&&_, _||_, or-false}
+use mathlib.Core.Bool.{Bool, true, false, not, _&&_, _||_, or-false}
 use mathlib.Core.List.{List, [], _∷_}
 use native.Mathlib.Omega.{arith}
 use borrow.Author.Tests.{leb-true, le-leb, eqb-true, eqb-false, eq-eqb, ne-eqb, lt-ltb, le-ltb}
@@ -193,13 +193,22 @@ answers-at f zero k h = absurd (omega arith)
 answers-at f (suc n) zero h = refl
 answers-at f (suc n) (suc k) h = answers-at (λ j. f (suc j)) n k (omega arith)
 
--- tests with the same answers are the same test
-pub same-answers : (f g : ℕ → Bool) (n k : ℕ) → answers f n ≡ answers g n → k < n → f k ≡ g k
-same-answers f g n k e h = sym (answers-at f n k h) ∙ ap (λ (l : List Bool). getD l k false) e ∙ answers-at g n k h
+-- where `t` holds, `f` answers as `g` does
+pub alike-where : (t f g : ℕ → Bool) (n k : ℕ) → k < n → t k ≡ true → answers (λ j. t j && f j) n ≡ answers (λ j. t j && g j) n → f k ≡ g k
+alike-where t f g n k h y e =
+    rw y at (sym (answers-at (λ j. t j && f j) n k h) ∙ ap (λ (l : List Bool). getD l k false) e ∙ answers-at (λ j. t j && g j) n k h)
 
--- the bits of `b` that `high` picks are `row`, and the low five name a bit that the mask `m` has
-abbrev pub masked : ℕ → ℕ → ℕ → ℕ → Bool
-masked high row m b = eqb (bitAnd b high) row && eqb (bitAnd (m / 2 ^ bitAnd b 31) 1) 1
+-- ---- a mask of letters
+-- the bits of `b` that `high` picks are `row`
+abbrev pub inRow : ℕ → ℕ → ℕ → Bool
+inRow high row b = eqb (bitAnd b high) row
+
+abbrev pub offRow : ℕ → ℕ → ℕ → Bool
+offRow high row b = not (inRow high row b)
+
+-- the mask `m` has the bit that the low five bits of `b` name
+abbrev pub hasLetter : ℕ → ℕ → Bool
+hasLetter m b = eqb (bitAnd (m / 2 ^ bitAnd b 31) 1) 1
 
 -- ---- the end of the word
 ends-past : (n p k : ℕ) → n ≤ k → false ≡ eqb (p + k + 1) n

@@ -24,7 +24,10 @@ const VOWELS: u32 = 1 << (b'A' & 31)
 pub fn is_vowel(b: u8) -> bool
     ensures { λ r. ⌜ r ≡ vowel b ⌝ }
 {
-    (b & 224 == 64) & ((VOWELS >> (b & 31)) & 1 == 1)
+    if b & 224 != 64 {
+        return false;
+    }
+    (VOWELS >> (b & 31)) & 1 == 1
 }
 
 // The window of `width` bytes at `at` is this text.

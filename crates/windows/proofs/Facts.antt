@@ -193,13 +193,13 @@ answers-at f zero k h = absurd (omega arith)
 answers-at f (suc n) zero h = refl
 answers-at f (suc n) (suc k) h = answers-at (λ j. f (suc j)) n k (omega arith)
 
--- where `t` holds, `f` answers as `g` does
+-- where `t` holds, `f` answers as `g` does, if antt finds it so at each number below `n`
 pub alike-where : (t f g : ℕ → Bool) (n k : ℕ) → k < n → t k ≡ true → answers (λ j. t j && f j) n ≡ answers (λ j. t j && g j) n → f k ≡ g k
 alike-where t f g n k h y e =
     rw y at (sym (answers-at (λ j. t j && f j) n k h) ∙ ap (λ (l : List Bool). getD l k false) e ∙ answers-at (λ j. t j && g j) n k h)
 
 -- ---- a mask of letters
--- the bits of `b` that `high` picks are `row`
+-- the bits of `b` that `high` picks are `row`, or are others
 abbrev pub inRow : ℕ → ℕ → ℕ → Bool
 inRow high row b = eqb (bitAnd b high) row
 

@@ -1,24 +1,29 @@
-// One visit: a match on the visited byte, whose promise is the definition's visit.
+// One visit: a match on the visited byte, whose promise is the definition's visit; and the running tally lent to it.
 use rules::Add;
+use rules::Spoken;
 use rules::Visit;
+use tally::Tally;
 ghost use mathlib.Core.Path.{_≡_};
 ghost use mathlib.Core.Bool.{cond};
-ghost use Prim.Native.Nat.{_+_};
+ghost use Prim.Native.Nat.{_+_, _<_, _^_};
 ghost use Rattle.windows.specs.Text.{upper};
 ghost use Rattle.windows.specs.Window.{byteAt};
 ghost use Rattle.rules.specs.Cond.{mode, plain};
-ghost use Rattle.rules.specs.Case.{answer, first};
+ghost use Rattle.rules.specs.Case.{answer};
+ghost use Rattle.rules.specs.Told.{spoke, numbered, speaker};
 ghost use Rattle.rules.specs.Plain.{casesVowel};
-ghost use Rattle.rules.specs.Table.{visit};
+ghost use Rattle.rules.specs.Table.{visit, spokenAt};
 ghost use Rattle.rules.specs.declared.Add.the-variants.{One};
+ghost use Rattle.tally.specs.Tally.{counted};
+ghost use Rattle.letters.specs.Visited.{visited};
 
-// What the byte at `at` adds to the codes and passes over; where no byte stands, nothing. `slavo` is the word's mark, and `second` says
-// that the rules are edition 2's.
-pub fn visit_at(w: &[u8], at: usize, slavo: bool, second: bool) -> Visit
-    ensures { λ r. ⌜ r ≡ visit (upper (now (w .entry))) at (mode slavo second) ⌝ }
+// What the byte at `at` adds to the codes and passes over, and which case says so, by which text; where no byte stands, nothing. `slavo`
+// is the word's mark, and `second` says that the rules are edition 2's.
+pub fn visit_at(w: &[u8], at: usize, slavo: bool, second: bool) -> Spoken
+    ensures { λ r. ⌜ r ≡ spokenAt (upper (now (w .entry))) at (mode slavo second) ⌝ }
 {
     if w.len() <= at {
-        return Visit::both(Add::Nothing, 0);
+        return Spoken::both(1, 0, Add::Nothing, 0);
     }
     match w[at] {
         b'A' | b'a' | b'E' | b'e' | b'I' | b'i' | b'O' | b'o' | b'U' | b'u' | b'Y' | b'y' =>
@@ -43,25 +48,60 @@ pub fn visit_at(w: &[u8], at: usize, slavo: bool, second: bool) -> Visit
         b'W' | b'w' => letters_w_z::w::handle_w(w, at),
         b'X' | b'x' => letters_w_z::x::handle_x(w, at),
         b'Z' | b'z' => letters_w_z::z::handle_z(w, at, slavo),
-        0..=64 | 91..=96 | 123..=255 => Visit::both(Add::Nothing, 0),
+        0..=64 | 91..=96 | 123..=255 => Spoken::both(1, 0, Add::Nothing, 0),
     }
 }
 
+// The running tally is lent to the rule, as the Rust lends its DoubleMetaphoneResult: it takes in what the rule answers, and the
+// visit is handed on.
+pub fn visit_into(
+    t: &mut Tally,
+    limit: usize,
+    w: &[u8],
+    at: usize,
+    slavo: bool,
+    second: bool,
+) -> Visit
+    requires { ⌜ now t .visits + 1 < 2 ^ 64 ⌝ }
+    ensures { λ r. ⌜ (now (t .exit) ≡ counted (now (t .entry)) limit r) × (r ≡ visit (upper (now (w .entry))) at (mode slavo second)) ⌝ }
+{
+    let spoken = visit_at(w, at, slavo, second);
+    let visit = spoken.visit;
+    *t = tally::counted(*t, limit, visit);
+    visit
+}
+
+// A visit, and the tally that took it in.
+pub struct Visited {
+    pub tally: Tally,
+    pub visit: Visit,
+}
+
+// The owner: lends its tally to the rule and hands it back. Whoever calls it lends nothing.
+pub fn visit_with(t: Tally, limit: usize, w: &[u8], at: usize, slavo: bool, second: bool) -> Visited
+    requires { ⌜ t .visits + 1 < 2 ^ 64 ⌝ }
+    ensures { λ r. ⌜ r ≡ visited t limit (visit (upper (now (w .entry))) at (mode slavo second)) ⌝ }
+{
+    let mut own = t;
+    let visit = visit_into(&mut own, limit, w, at, slavo, second);
+    Visited { tally: own, visit }
+}
+
 // A vowel or Y gives A at place 0 only.
-pub fn handle_vowel(w: &[u8], at: usize) -> Visit
-    ensures { λ r. ⌜ r ≡ first casesVowel (upper (now (w .entry))) at plain ⌝ }
+pub fn handle_vowel(w: &[u8], at: usize) -> Spoken
+    ensures { λ r. ⌜ r ≡ speaker (numbered casesVowel) (upper (now (w .entry))) at plain ⌝ }
 {
     if at == 0 {
-        Visit::both(Add::One(b'A'), 0)
+        Spoken::both(1, 0, Add::One(b'A'), 0)
     } else {
-        Visit::both(Add::Nothing, 0)
+        Spoken::both(2, 0, Add::Nothing, 0)
     }
 }
 
 // A letter of one sound, which swallows a doubled one.
-pub fn handle_plain(w: &[u8], at: usize, letter: u8, sound: u8) -> Visit
-    ensures { λ r. ⌜ r ≡ answer (One sound) (One sound) (cond (byteAt (upper (now (w .entry))) (at + 1) letter) 1 0) ⌝ }
+pub fn handle_plain(w: &[u8], at: usize, letter: u8, sound: u8) -> Spoken
+    ensures { λ r. ⌜ r ≡ cond (byteAt (upper (now (w .entry))) (at + 1) letter) (spoke 1 0 (answer (One sound) (One sound) 1)) (spoke 2 0 (answer (One sound) (One sound) 0)) ⌝ }
 {
-    let over = rules::one_if(windows::char_ahead(w, at, 1, letter));
-    Visit::both(Add::One(sound), over)
+    let doubled = windows::char_ahead(w, at, 1, letter);
+    Spoken::either(1, doubled, 0, Add::One(sound), Add::One(sound))
 }

@@ -11,16 +11,13 @@ use Rattle.tally.specs.declared.Tally.{Tally}
 abbrev pub longer : ℕ → ℕ → Add → ℕ
 longer limit len add = len + length (take (limit - len) (bytesOf add))
 
-abbrev pub withPrimary : Tally → ℕ → Visit → Tally
-withPrimary t limit v = record { primary = longer limit (t .primary) (v .primary); alternate = t .alternate; visits = t .visits }
+abbrev pub withPrimary : Tally → ℕ → Add → Tally
+withPrimary t limit add = record { primary = longer limit (t .primary) add; alternate = t .alternate; visits = t .visits }
 
-abbrev pub withAlternate : Tally → ℕ → Visit → Tally
-withAlternate t limit v = record { primary = t .primary; alternate = longer limit (t .alternate) (v .alternate); visits = t .visits }
+abbrev pub withAlternate : Tally → ℕ → Add → Tally
+withAlternate t limit add = record { primary = t .primary; alternate = longer limit (t .alternate) add; visits = t .visits }
 
-abbrev pub withVisit : Tally → ℕ → Visit → Tally
-withVisit t limit v = record { primary = t .primary; alternate = t .alternate; visits = t .visits + 1 }
-
--- all three
+-- the tally after a visit
 abbrev pub counted : Tally → ℕ → Visit → Tally
 counted t limit v =
     record {

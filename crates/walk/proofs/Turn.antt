@@ -29,7 +29,7 @@ skipped v at (suc k) (suc left) =
     rw (e, f) (skipped v (suc at) k left)
 
 -- before the end the walk visits the place it stands at, and goes on behind what that visit passes over
-next-place : (v : ℕ → Visit) (at t : ℕ) → at < t → places v at 0 (t - at) ≡ at ∷ places v (at + 1 + v at .over) 0 (t - (at + 1 + v at .over))
+pub next-place : (v : ℕ → Visit) (at t : ℕ) → at < t → places v at 0 (t - at) ≡ at ∷ places v (at + 1 + v at .over) 0 (t - (at + 1 + v at .over))
 next-place v at t h =
     let d : t - at ≡ suc (t - suc at) = omega arith in
     let n : suc at + v at .over ≡ at + 1 + v at .over = omega arith in

@@ -1,5 +1,6 @@
 // The walk over a trimmed word: the Slavo-Germanic mark, the silent start, and the loop that visits place after place and writes
-// what each visit adds, clipped to the limit. Of the letter rules it uses the promise of `visit_at` alone.
+// what each visit adds, clipped to the limit. Of the letter rules it uses the promise of `visit_with` alone, which
+// lends them the tally.
 pub mod mark;
 
 use rules::Add;
@@ -68,13 +69,14 @@ pub fn walk(w: &[u8], edition: Edition, limit: usize, p: &mut [u8], a: &mut [u8]
         if (limit <= t.primary) & (limit <= t.alternate) {
             break;
         }
-        let v = letters::visit_at(w, at, slavo, second);
+        let visited = letters::visit_with(t, limit, w, at, slavo, second);
+        let v = visited.visit;
         let x = v.primary;
         let y = v.alternate;
         let over = v.over;
         put(p, t.primary, limit, x);
         put(a, t.alternate, limit, y);
-        t = tally::counted(t, limit, v);
+        t = visited.tally;
         at = at + 1 + over;
     }
     t

@@ -16,6 +16,8 @@ use Rattle.rules.specs.declared.Edition.the-variants.{E1, E2}
 use Rattle.rules.specs.Table.{visit}
 use Rattle.rules.proofs.Bound.{visit-short}
 use Rattle.tally.specs.declared.Tally.{Tally}
+use Rattle.tally.specs.Tally.{counted}
+use Rattle.letters.specs.declared.Visited.{Visited}
 use Rattle.walk.specs.Word.{ruleOf, limitedOf}
 use Rattle.walk.proofs.Turn.{Written, Going, going, room-p, room-a, turned, at-end, at-limit}
 use Rattle.walk.proofs.walk.Statement.{statement}
@@ -54,85 +56,87 @@ loop-holds c =
     let a = c .before .before .before .before .before .before .args in
     rw (c .start-of .ensures) (going (editionIf (c .before .is-second .result)) (now (a .w)) (now (a .p)) (now (a .a)) (a .limit))
 
-visit-at-requires : tie.Need-visit-at-requires Inv-loop μ-loop
-visit-at-requires c κs = search needs
-
 abbrev Room : Edition → ℕ → List ℕ → List ℕ → List ℕ → Type 0
 Room e limit w p a = (length (limitedOf e limit w .primary) ≤ length p) × (length (limitedOf e limit w .alternate) ≤ length a)
 
--- from a visit back to the loop's head and to the entry
-abbrev head : tie.After-visit-at Inv-loop μ-loop → tie.At-loop Inv-loop μ-loop
-head c = c .before .before .before .before .before
+-- from a turn that goes on back to the loop's head and to the entry
+abbrev head : tie.Else1 Inv-loop μ-loop → tie.At-loop Inv-loop μ-loop
+head c = c .before .before .before .before
 
-abbrev entry : tie.After-visit-at Inv-loop μ-loop → tie.Start Inv-loop μ-loop
+abbrev entry : tie.Else1 Inv-loop μ-loop → tie.Start Inv-loop μ-loop
 entry c = head c .before .before .before .before .before .before .before
 
--- the place is inside the word, the visit is the rule's, and some code still takes bytes
-inside : (c : tie.After-visit-at Inv-loop μ-loop) → head c .loop .at < length (now (entry c .args .w))
-inside c = c .before .before .before .before .loop-test .taken
+-- the place is inside the word, and some code still takes bytes
+inside : (c : tie.Else1 Inv-loop μ-loop) → head c .loop .at < length (now (entry c .args .w))
+inside c = c .before .before .before .loop-test .taken
 
-abbrev edition : tie.After-visit-at Inv-loop μ-loop → Edition
-edition c = editionIf (head c .before .before .is-second .result)
+wanted : (c : tie.Else1 Inv-loop μ-loop) → (leb (entry c .args .limit) (head c .loop .t .primary) && leb (entry c .args .limit) (head c .loop .t .alternate)) ≡ false
+wanted c = c .if1 .left
 
-ruled : (c : tie.After-visit-at Inv-loop μ-loop) → c .visit-at .result ≡ ruleOf (edition c) (now (entry c .args .w)) (head c .loop .at)
-ruled c =
-    c .visit-at .ensures
-    ∙ ap₂ (λ (m n : Bool). visit (upper (now (entry c .args .w))) (head c .loop .at) (mode m n)) (head c .before .before .before .is-slavo-germanic .ensures) (sym (told _))
+visit-with-requires : tie.Need-visit-with-requires Inv-loop μ-loop
+visit-with-requires c κs = omega (arith, head c .loop .inv .low, inside c, entry c .good .0 .0)
 
 -- it is the edition that was asked for
 is-asked : (b : Bool) (e : Edition) → b ≡ isSecond e → editionIf b ≡ e
 is-asked b e h = ap editionIf h ∙ told-back e
 
+abbrev edition : tie.Else1 Inv-loop μ-loop → Edition
+edition c = editionIf (head c .before .before .is-second .result)
+
 -- so the room is that of its codes
-roomy : (c : tie.After-visit-at Inv-loop μ-loop) → Room (edition c) (entry c .args .limit) (now (entry c .args .w)) (now (entry c .args .p)) (now (entry c .args .a))
+roomy : (c : tie.Else1 Inv-loop μ-loop) → Room (edition c) (entry c .args .limit) (now (entry c .args .w)) (now (entry c .args .p)) (now (entry c .args .a))
 roomy c =
     subst (λ (e : Edition). Room e (entry c .args .limit) (now (entry c .args .w)) (now (entry c .args .p)) (now (entry c .args .a)))
     (sym (is-asked _ (entry c .args .edition) (head c .before .before .is-second .ensures))) (entry c .pre)
 
-wanted : (c : tie.After-visit-at Inv-loop μ-loop) → (leb (entry c .args .limit) (head c .loop .t .primary) && leb (entry c .args .limit) (head c .loop .t .alternate)) ≡ false
-wanted c = c .before .if1 .left
+-- the visit is the rule's, the tally has taken it in, and it passes over at most three bytes
+ruled : (c : tie.After-visit-with Inv-loop μ-loop) → c .visit-with .result .visit ≡ ruleOf (edition (c .before)) (now (entry (c .before) .args .w)) (head (c .before) .loop .at)
+ruled c =
+    ap (λ (r : Visited). r .visit) (c .visit-with .ensures)
+    ∙ ap₂ (λ (m n : Bool). visit (upper (now (entry (c .before) .args .w))) (head (c .before) .loop .at) (mode m n)) (head (c .before) .before .before .before .is-slavo-germanic .ensures) (sym (told _))
+
+took : (c : tie.After-visit-with Inv-loop μ-loop) → c .visit-with .result .tally ≡ counted (head (c .before) .loop .t) (entry (c .before) .args .limit) (c .visit-with .result .visit)
+took c = rw (c .visit-with .ensures)
+
+over-few : (c : tie.After-visit-with Inv-loop μ-loop) → c .visit-with .result .visit .over ≤ 3
+over-few c = rw (c .visit-with .ensures) (visit-short _ _ _ .over)
 
 put-requires : tie.Need-put-requires Inv-loop μ-loop
 put-requires c κs =
-    let t = c .before in
-    room-p (head t .loop .inv) (t .visit-at .result) (ruled t) (inside t) (wanted t) (roomy t .0)
+    let v = c .before .before in
+    let t = v .before in
+    room-p (head t .loop .inv) (v .visit-with .result .visit) (ruled v) (inside t) (wanted t) (roomy t .0)
 
 put-requires-2 : tie.Need-put-requires-2 Inv-loop μ-loop
 put-requires-2 c κs =
-    let t = c .before .before .before .before .before in
-    room-a (head t .loop .inv) (t .visit-at .result) (ruled t) (inside t) (wanted t) (roomy t .1)
+    let v = c .before .before .before .before .before .before in
+    let t = v .before in
+    room-a (head t .loop .inv) (v .visit-with .result .visit) (ruled v) (inside t) (wanted t) (roomy t .1)
 
-counted-requires : tie.Need-counted-requires Inv-loop μ-loop
-counted-requires c κs =
-    let t = c .before .before .before .before .before .before .before .before in
-    omega (arith, head t .loop .inv .low, inside t, entry t .good .0 .0)
-
--- a visit passes over at most three bytes, and a word has fewer than 2^63
-over-few : (c : tie.After-visit-at Inv-loop μ-loop) → c .visit-at .result .over ≤ 3
-over-few c = rw (c .visit-at .ensures) (visit-short _ _ _ .over)
-
+-- a word has fewer than 2^63 bytes
 add-at : tie.Need-add-at Inv-loop μ-loop
 add-at c =
-    let t = c .before .before .before .before .before .before .before .before .before in
+    let t = c .before .before .before .before .before .before .before .before .before .before .before in
     omega (arith, inside t, entry t .good .0 .1)
 
 add-at-2 : tie.Need-add-at-2 Inv-loop μ-loop
 add-at-2 c =
-    let t = c .before .before .before .before .before .before .before .before .before in
-    omega (arith, over-few t, inside t, entry t .good .0 .1)
+    let v = c .before .before .before .before .before .before .before .before .before .before in
+    omega (arith, over-few v, inside (v .before), entry (v .before) .good .0 .1)
 
 loop-less : tie.Need-loop-less Inv-loop μ-loop
 loop-less c =
-    let t = c .before .before .before .before .before .before .before .before .before in
+    let t = c .before .before .before .before .before .before .before .before .before .before .before in
     omega (arith, inside t)
 
 loop-again : tie.Need-loop-again Inv-loop μ-loop
 loop-again c =
-    let t = c .before .before .before .before .before .before .before .before .before in
+    let v = c .before .before .before .before .before .before .before .before .before .before in
+    let t = v .before in
     let one = c .before .before .before .before .before .before .before .put in
     let two = c .before .before .before .put2 in
-    turned (head t .loop .inv) (t .visit-at .result) (ruled t) (inside t) (wanted t) (c .counted .result) (one .last .0) (two .last .0)
-    (c .counted .ensures) (one .ensures) (two .ensures) (roomy t .0) (roomy t .1)
+    turned (head t .loop .inv) (v .visit-with .result .visit) (ruled v) (inside t) (wanted t) (v .visit-with .result .tally) (one .last .0) (two .last .0)
+    (took v) (one .ensures) (two .ensures) (roomy t .0) (roomy t .1)
 
 same-length : tie.Need-same-length Inv-loop μ-loop
 same-length c = c .before .loop .inv .primary .long
@@ -171,10 +175,9 @@ walk-spec =
     is-second-requires
     start-of-requires
     loop-holds
-    visit-at-requires
+    visit-with-requires
     put-requires
     put-requires-2
-    counted-requires
     add-at
     add-at-2
     loop-less

@@ -1,9 +1,12 @@
--- No public function's promise leaves a choice: for the same arguments, any two lent arrays at exit that it admits are equal. Assumes
--- nothing.
+-- No public function's promise leaves a choice: for the same arguments, any two results, and any two lent arrays at exit,
+-- that it admits are equal. Assumes nothing.
 use mathlib.Core.Path.{_≡_, sym, _∙_}
 use borrow.Fn.Kinds.{Dens, resT, endedOf}
 use denote.Ref.{now}
 use denote.Triple.Clauses.{AtExit}
+use Rattle.windows.proofs.Choice.{OneResult}
+use Rattle.answers.proofs.limit_of.Kinds as limit-of-kinds
+use Rattle.answers.proofs.limit_of.Reads as limit-of
 use Rattle.answers.proofs.tell_answer.Kinds as answer-kinds
 use Rattle.answers.proofs.tell_answer.Reads as answer
 use Rattle.answers.proofs.tell_reply.Kinds as reply-kinds
@@ -23,6 +26,9 @@ use Rattle.answers.proofs.tell_ended.Reads as ended
 use Rattle.answers.proofs.tell_joined.Kinds as joined-kinds
 use Rattle.answers.proofs.tell_joined.Reads as joined
 use contract.Lifetimes.{Lfts}
+
+pub one-limit : OneResult limit-of-kinds.ps limit-of-kinds.r limit-of.Post
+one-limit κs a x y s t p q = p ∙ sym q
 
 module _ (κs : Lfts 1) (a : Dens κs answer-kinds.ps) (x y : resT answer-kinds.r κs .Denot) (s t : AtExit (endedOf 1 answer-kinds.ps answer-kinds.r) κs) where
   pub one-answer : answer.Post κs a x s → answer.Post κs a y t → now (s .1 .0) ≡ now (t .1 .0)

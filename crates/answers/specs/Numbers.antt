@@ -1,6 +1,9 @@
 -- Answers as numbers, in document 01's order and document 02's: 0 or the refusal's number first, and 0 for what an answer does not have.
 use Prim.Native.Nat.{ℕ}
+use mathlib.Core.Bool.{Bool, true, false}
 use mathlib.Core.List.{List, [], _∷_}
+use Rattle.encoder.specs.declared.Limit.{Limit}
+use Rattle.encoder.specs.declared.Limit.the-variants as limit
 use Rattle.encoder.specs.declared.Answer.{Answer}
 use Rattle.encoder.specs.declared.Reply.{Reply}
 use Rattle.encoder.specs.declared.Reply.the-variants as reply
@@ -19,6 +22,11 @@ use Rattle.writer.specs.declared.Made.{Made}
 use Rattle.writer.specs.declared.Made.the-variants as made
 use Rattle.join.specs.declared.Joined.{Joined}
 use Rattle.join.specs.declared.Joined.the-variants as joined
+
+-- a host's limit, which counts where there is one
+abbrev pub limitOf : Bool → ℕ → Limit
+limitOf true n = limit.At n
+limitOf false n = limit.Whole
 
 -- number, place, primary length, alternate length, visits
 abbrev pub answerNumbers : Answer → List ℕ

@@ -1,15 +1,27 @@
-// Answers as numbers, for hosts: 0 or the refusal's number first, and 0 for what an answer does not have.
+// Answers as numbers, for hosts: 0 or the refusal's number first, and 0 for what an answer does not have; and a host's numbers as a limit.
 use book::Opened;
 use book::Step;
 use book::Whole;
 use encoder::Answer;
+use encoder::Limit;
 use encoder::Reply;
 use equality::Verdict;
 use join::Joined;
 use writer::Ended;
 use writer::Made;
 ghost use mathlib.Core.Path.{_≡_};
-ghost use Rattle.answers.specs.Numbers.{answerNumbers, replyNumbers, verdictNumbers, madeNumbers, openedNumbers, stepNumbers, wholeNumbers, endedNumbers, joinedNumbers};
+ghost use Rattle.answers.specs.Numbers.{limitOf, answerNumbers, replyNumbers, verdictNumbers, madeNumbers, openedNumbers, stepNumbers, wholeNumbers, endedNumbers, joinedNumbers};
+
+// `limit` counts where `limited` is true.
+pub fn limit_of(limited: bool, limit: u64) -> Limit
+    ensures { λ r. ⌜ r ≡ limitOf limited limit ⌝ }
+{
+    if limited {
+        Limit::At(limit as usize)
+    } else {
+        Limit::Whole
+    }
+}
 
 // Number, place, both lengths and visits.
 pub fn tell_answer(answer: Answer, out: &mut [u64; 5])

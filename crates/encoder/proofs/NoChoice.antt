@@ -1,5 +1,5 @@
 -- No public function's promise leaves a choice: for the same arguments, any two results that it admits are equal, and so are the
--- lent buffers at exit. Of the part that `chosen` hands back, its bytes. Assumes nothing.
+-- lent buffers at exit. Of the part that `chosen` or `trimmed` hands back, its bytes. Assumes nothing.
 use mathlib.Core.Path.{_≡_, sym, _∙_}
 use borrow.Fn.Kinds.{Dens, resT, endedOf}
 use denote.Ref.{now}
@@ -21,6 +21,8 @@ use Rattle.encoder.proofs.is_ascii.Kinds as is-ascii-kinds
 use Rattle.encoder.proofs.is_ascii.Reads as is-ascii
 use Rattle.encoder.proofs.chosen.Kinds as chosen-kinds
 use Rattle.encoder.proofs.chosen.Reads as chosen
+use Rattle.encoder.proofs.trimmed.Kinds as trimmed-kinds
+use Rattle.encoder.proofs.trimmed.Reads as trimmed
 use contract.Lifetimes.{Lfts}
 
 pub one-in-edition : OneResult in-edition-kinds.ps in-edition-kinds.r in-edition.Post
@@ -65,3 +67,7 @@ one-is-ascii κs a x y s t p q = p ∙ sym q
 module _ (κs : Lfts 1) (a : Dens κs chosen-kinds.ps) (x y : resT chosen-kinds.r κs .Denot) (s t : AtExit (endedOf 1 chosen-kinds.ps chosen-kinds.r) κs) where
   pub one-chosen : chosen.Post κs a x s → chosen.Post κs a y t → now x ≡ now y
   one-chosen p q = p ∙ sym q
+
+module _ (κs : Lfts 1) (a : Dens κs trimmed-kinds.ps) (x y : resT trimmed-kinds.r κs .Denot) (s t : AtExit (endedOf 1 trimmed-kinds.ps trimmed-kinds.r) κs) where
+  pub one-trimmed : trimmed.Post κs a x s → trimmed.Post κs a y t → now x ≡ now y
+  one-trimmed p q = p ∙ sym q

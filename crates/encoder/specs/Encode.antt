@@ -6,7 +6,7 @@ use mathlib.Core.Path.{_≡_}
 use mathlib.Core.List.{List}
 use mathlib.Core.Bool.{cond}
 use lib.Dec.{ltb}
-use lib.ListN.{length}
+use lib.ListN.{length, take}
 pub use Rattle.walk.specs.Walk.{filled}
 pub use Rattle.encoder.specs.Numbers.{wordLimit, numberOf, placeOf, primaryLength, alternateLength, visitCount}
 use Rattle.walk.specs.Walk as walk
@@ -41,6 +41,11 @@ capOf (At n) t = n
 abbrev pub walkOf : Edition → Limit → List ℕ → walk.Coded
 walkOf ed Whole t = wholeOf ed t
 walkOf ed (At n) t = limitedOf ed n t
+
+-- a code's first bytes; a shorter code counts whole, and no limit puts no bound
+abbrev pub clip : Limit → List ℕ → List ℕ
+clip Whole c = c
+clip (At n) c = take n c
 
 -- its codes and its visits
 unfoldable pub primaryOf : Edition → Limit → List ℕ → List ℕ

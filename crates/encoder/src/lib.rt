@@ -3,7 +3,7 @@ use rules::Edition;
 ghost use mathlib.Core.Path.{_≡_};
 ghost use Prim.Native.Nat.{_≤_};
 ghost use lib.ListN.{length, take, drop};
-ghost use Rattle.encoder.specs.Trim.{blank, trimStart, trimEnd, isAscii, firstHigh};
+ghost use Rattle.encoder.specs.Trim.{blank, trimStart, trimEnd, trimmed, isAscii, firstHigh};
 ghost use Rattle.encoder.specs.Encode.{wordLimit, encoderOf, defaultLimit, needOf, capOf, Encoded};
 ghost use Rattle.encoder.specs.Editions.{editionOf, EncodedIn};
 ghost use Rattle.encoder.specs.Chosen.{frontOf, chosenOf};
@@ -115,6 +115,16 @@ fn back(w: &[u8]) -> usize
         e -= 1;
     }
     e
+}
+
+// The word between its blanks, as a part of the lent one.
+pub fn trimmed(word: &[u8]) -> &[u8]
+    ensures { λ r. ⌜ now r ≡ trimmed (now (word .entry)) ⌝ }
+{
+    let start = front(word);
+    let len = back(&word[start..]);
+    let end = start + len;
+    &word[start..end]
 }
 
 // The room that each buffer must have for a trimmed word of t bytes.

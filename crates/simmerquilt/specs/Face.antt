@@ -1,18 +1,12 @@
--- The C face: a host's numbers as the encoder's limit and choice, a cursor and an end. What the answers are is the encoder's, the equality
+-- The C face: a host's numbers as a choice, a cursor and an end. What the answers are is the encoder's, the equality
 -- question's, the book's, the writer's and the join's own definition; their numbers are those of crates/answers.
 use Prim.Native.Nat.{ℕ}
 use mathlib.Core.Bool.{Bool, true, false}
-use Rattle.encoder.specs.declared.Limit.{Limit}
-use Rattle.encoder.specs.declared.Limit.the-variants.{Whole, At}
 use Rattle.encoder.specs.declared.Choice.{Choice}
 use Rattle.encoder.specs.declared.Choice.the-variants.{Primary, Alternate}
 use Rattle.book.specs.declared.Header.{Header}
 use Rattle.book.specs.declared.Cursor.{Cursor}
 use Rattle.writer.specs.declared.End.{End}
-
-abbrev pub limitOf : Bool → ℕ → Limit
-limitOf true n = At n
-limitOf false n = Whole
 
 abbrev pub choiceOf : Bool → Choice
 choiceOf true = Alternate

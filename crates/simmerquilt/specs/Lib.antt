@@ -1,3 +1,3 @@
 -- The C face.
---     Face   a host's numbers as a limit, a choice, a cursor and an end
+--     Face   a host's numbers as a choice, a cursor and an end
 pub mod Face

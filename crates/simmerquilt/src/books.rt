@@ -1,5 +1,5 @@
 // The station key book, for hosts. Each answer begins with 0 or the refusal's number; under a refusal the rest are 0.
-use crate::limit_of;
+use answers::limit_of;
 use book::Cursor;
 use book::Header;
 use writer::End;
@@ -9,8 +9,8 @@ ghost use Rattle.book.specs.Book.{readHeader, readBook, headerBytes, recordByte
 ghost use Rattle.book.specs.Told.{openedBy, nextOf, wholeBy};
 ghost use Rattle.writer.specs.Made.{cutOf, cutFault, newHeader, placed, left, keyed};
 ghost use Rattle.writer.specs.Ended.{readIn, addedBy, leftBy, behind, placedAt};
-ghost use Rattle.answers.specs.Numbers.{madeNumbers, openedNumbers, stepNumbers, wholeNumbers, endedNumbers};
-ghost use Rattle.simmerquilt.specs.Face.{limitOf, cursorOf, endFrom, headerFrom};
+ghost use Rattle.answers.specs.Numbers.{limitOf, madeNumbers, openedNumbers, stepNumbers, wholeNumbers, endedNumbers};
+ghost use Rattle.simmerquilt.specs.Face.{cursorOf, endFrom, headerFrom};
 
 // Starts a book with no records; `out` is number and length.
 #[no_mangle]

@@ -3,28 +3,17 @@
 mod books;
 mod joins;
 
+use answers::limit_of;
 use encoder::Choice;
 use encoder::Encoder;
-use encoder::Limit;
 ghost use mathlib.Core.Path.{_≡_};
 ghost use lib.ListN.{length};
 ghost use Rattle.rules.specs.declared.Edition.the-variants.{E1};
 ghost use Rattle.encoder.specs.Encode.{answerOf, Encoded};
 ghost use Rattle.encoder.specs.Editions.{replyOf, EncodedIn};
 ghost use Rattle.equality.specs.Equality.{verdictOf};
-ghost use Rattle.answers.specs.Numbers.{answerNumbers, replyNumbers, verdictNumbers};
-ghost use Rattle.simmerquilt.specs.Face.{limitOf, choiceOf};
-
-// `limit` counts where `limited` is true.
-fn limit_of(limited: bool, limit: u64) -> Limit
-    ensures { λ r. ⌜ r ≡ limitOf limited limit ⌝ }
-{
-    if limited {
-        Limit::At(limit as usize)
-    } else {
-        Limit::Whole
-    }
-}
+ghost use Rattle.answers.specs.Numbers.{limitOf, answerNumbers, replyNumbers, verdictNumbers};
+ghost use Rattle.simmerquilt.specs.Face.{choiceOf};
 
 fn choice_of(alternate: bool) -> Choice
     ensures { λ r. ⌜ r ≡ choiceOf alternate ⌝ }

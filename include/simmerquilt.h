@@ -19,8 +19,8 @@
  * 3    the primary buffer is shorter than the need            as 1
  * 4    the alternate buffer is shorter than the need          as 1
  *
- * The first that holds is given, in this order; only simmerquilt_encode_in is passed an edition, so that it alone gives 7. The need
- * is 0 if the trimmed word is empty, else 2 * t - 1 for its t bytes, or the limit if that is smaller.
+ * The first that holds is given, in this order; simmerquilt_encode is passed no edition, so that it never gives 7. The need is 0 if
+ * the trimmed word is empty, else 2 * t - 1 for its t bytes, or the limit if that is smaller.
  */
 #ifndef SIMMERQUILT_H
 #define SIMMERQUILT_H
@@ -77,6 +77,55 @@ void simmerquilt_encode_in(uint64_t edition,
                            uint8_t *alternate, size_t alternate_room,
                            bool limited, uint64_t limit,
                            uint64_t answer[SIMMERQUILT_ANSWER_COUNT]);
+
+/* Which rule spoke at each visit of a word: a row of seven numbers for each visit that simmerquilt_encode_in makes by the same edition
+ * under the same limit, in order.
+ *
+ * The place counts from the front of the trimmed word. The letter is the byte there, a to z as A to Z. The case is the number, from 1, of
+ * the case that spoke in the letter's list (docs/RULES.md has them all: A, E, I, O, U and Y share one list, bytes outside A to Z another).
+ * The text is the number, from 1, of the text that matched in the first window test of that case's condition that matched one, tests
+ * under a "not" left out; 0 where none did. What each code gained is 0 for nothing, the byte, or the first byte plus 256 times the second,
+ * before it is clipped to the limit: joined and clipped, the gains are the codes. Over is how many further bytes are passed over.
+ *
+ * No.  given exactly when                                     returns and leaves
+ * 0    none of the others                                     how many rows there are; rows written
+ * 7    the edition is not known: neither 1 nor 2              rows 0; the room untouched
+ * 1    the word, before trimming, is over 1,024 bytes         as 7
+ * 2    some byte of it is 128 or more                         also the place of the first; otherwise as 7
+ * 9    the room holds fewer rows than there are visits        as 7
+ *
+ * The first that holds is given, in this order. */
+enum {
+    SIMMERQUILT_ROW_PLACE,
+    SIMMERQUILT_ROW_LETTER,
+    SIMMERQUILT_ROW_CASE,
+    SIMMERQUILT_ROW_TEXT,
+    SIMMERQUILT_ROW_PRIMARY,
+    SIMMERQUILT_ROW_ALTERNATE,
+    SIMMERQUILT_ROW_OVER,
+    SIMMERQUILT_ROW_COUNT
+};
+
+enum {
+    /* A room of this length is never too short, nor is one of SIMMERQUILT_ROW_COUNT numbers for each byte of the word. */
+    SIMMERQUILT_ROWS_ROOM = 7168
+};
+
+/* Where each number stands in the answer of simmerquilt_explain. */
+enum {
+    SIMMERQUILT_EXPLAIN_NUMBER,
+    SIMMERQUILT_EXPLAIN_PLACE,
+    SIMMERQUILT_EXPLAIN_ROWS,
+    SIMMERQUILT_EXPLAIN_COUNT
+};
+
+/* Writes the rows to the front of `rows`, which has room for `rows_length` numbers; those that make no whole row are not used. The answer
+ * is the number (0, 1, 2, 7 or 9), the place, and how many rows there are. Numbers behind the rows keep what they held. */
+void simmerquilt_explain(uint64_t edition,
+                         const uint8_t *word, size_t word_length,
+                         bool limited, uint64_t limit,
+                         uint32_t *rows, size_t rows_length,
+                         uint64_t answer[SIMMERQUILT_EXPLAIN_COUNT]);
 
 /* Where each number stands in the answer of simmerquilt_equal. */
 enum {

@@ -1,6 +1,6 @@
-/* Calls the library as a C program does: words with known keys by both editions, every refusal, guard bytes around the buffers, and
- * station key books of both editions that are started, added to, read and joined with another. It writes nothing where all is as it
- * should be. */
+/* Calls the library as a C program does: words with known keys by both editions, every refusal, guard bytes around the buffers, the
+ * listing of which rule spoke, and station key books of both editions that are started, added to, read and joined with another. It
+ * writes nothing where all is as it should be. */
 #include "simmerquilt.h"
 
 #include <stdio.h>
@@ -160,6 +160,50 @@ static void nothing_lent(void) {
     expect(answered(answer, SIMMERQUILT_ACCEPTED, 0, 0, 0, 0), "nothing lent", "edition 2");
     simmerquilt_encode_in(3, NULL, 0, NULL, 0, NULL, 0, false, 0, answer);
     expect(answered(answer, SIMMERQUILT_UNKNOWN, 0, 0, 0, 0), "nothing lent", "edition 3");
+    simmerquilt_explain(1, NULL, 0, false, 0, NULL, 0, answer);
+    expect(answer[SIMMERQUILT_EXPLAIN_NUMBER] == SIMMERQUILT_ACCEPTED && answer[SIMMERQUILT_EXPLAIN_ROWS] == 0, "nothing lent", "rows");
+}
+
+enum { ROWS_ROOM = 3 * SIMMERQUILT_ROW_COUNT + 6, ROWS_HELD = 0x0eeeeeee };
+
+/* Lists a word in a room of `length` numbers, and expects the answer, these rows, and all other numbers held. A limit below 0 is none. */
+static void explained(uint64_t edition, const char *word, size_t word_length, int limit, size_t length, uint64_t number,
+                      uint64_t place, const uint32_t *rows, size_t count) {
+    uint64_t expected[SIMMERQUILT_EXPLAIN_COUNT] = {number, place, count};
+    uint64_t answer[SIMMERQUILT_EXPLAIN_COUNT];
+    uint32_t room[ROWS_ROOM], wanted[ROWS_ROOM];
+    size_t at;
+    for (at = 0; at < ROWS_ROOM; at++) {
+        room[at] = ROWS_HELD;
+        wanted[at] = at < count * SIMMERQUILT_ROW_COUNT ? rows[at] : ROWS_HELD;
+    }
+    simmerquilt_explain(edition, (const uint8_t *)word, word_length, limit >= 0, limit >= 0 ? (uint64_t)limit : 0, room, length,
+                        answer);
+    expect(memcmp(answer, expected, sizeof expected) == 0, "explained", word);
+    expect(memcmp(room, wanted, sizeof room) == 0, "rows", word);
+}
+
+/* KXZ: the K of one sound; X behind it, KS; Z in a word with the Slavo-Germanic mark, S and TS. */
+static void explanations(void) {
+    static const uint32_t rows[] = {
+        0, 'K', 2, 0, 'K', 'K', 0,
+        1, 'X', 3, 0, 'K' + 256 * 'S', 'K' + 256 * 'S', 0,
+        2, 'Z', 3, 0, 'S', 'T' + 256 * 'S', 0,
+    };
+    static const uint32_t ch[] = {0, 'C', 4, 1, 'K', 'K', 1};
+    static char longest[SIMMERQUILT_WORD_LIMIT + 2];
+    memset(longest, 'b', SIMMERQUILT_WORD_LIMIT + 1);
+    explained(1, "KXZ", 3, -1, ROWS_ROOM, SIMMERQUILT_ACCEPTED, 0, rows, 3);
+    explained(2, "\tkxz ", 5, -1, 3 * SIMMERQUILT_ROW_COUNT, SIMMERQUILT_ACCEPTED, 0, rows, 3);
+    /* The walk ends once both codes are full; the gain of the last visit is told whole. */
+    explained(1, "KXZ", 3, 2, ROWS_ROOM, SIMMERQUILT_ACCEPTED, 0, rows, 2);
+    explained(1, "KXZ", 3, 0, 0, SIMMERQUILT_ACCEPTED, 0, rows, 0);
+    explained(1, "Ch", 2, 1, SIMMERQUILT_ROW_COUNT, SIMMERQUILT_ACCEPTED, 0, ch, 1);
+    explained(1, "KXZ", 3, -1, 3 * SIMMERQUILT_ROW_COUNT - 1, SIMMERQUILT_ROOM_SHORT, 0, rows, 0);
+    explained(1, "Gar\xc3\xa7on", 7, -1, 0, SIMMERQUILT_NOT_ASCII, 3, rows, 0);
+    explained(2, longest, SIMMERQUILT_WORD_LIMIT + 1, -1, 0, SIMMERQUILT_TOO_LONG, 0, rows, 0);
+    explained(3, longest, SIMMERQUILT_WORD_LIMIT + 1, -1, 0, SIMMERQUILT_UNKNOWN, 0, rows, 0);
+    explained(0, "KXZ", 3, -1, ROWS_ROOM, SIMMERQUILT_UNKNOWN, 0, rows, 0);
 }
 
 /* A new book of two records under limit 4, and where its parts end; and the header of one that was stored under edition 1. */
@@ -472,6 +516,7 @@ int main(void) {
     editions();
     refusals();
     questions();
+    explanations();
     nothing_lent();
     books_started();
     books_added_to();

@@ -3,7 +3,7 @@
 use crate::draw::{self, Kind};
 use crate::trial::{Rooms, Trial, UNKNOWN};
 use simmerquilt::WORD_LIMIT;
-use words::Rng;
+use words::{Rng, SHORT};
 
 const ALPHABET: &[u8; 27] = b"ABCDEFGHIJKLMNOPQRSTUVWXYZ ";
 
@@ -16,8 +16,6 @@ const ENOUGH: &[Rooms] = &[Rooms::Spare];
 
 /// Words, or questions, of a drawn job whose words are short.
 const DRAWN: usize = 4000;
-/// A drawn short word has fewer bytes than this.
-const SHORT: usize = 24;
 
 #[derive(Clone, Copy, Debug)]
 pub enum Job {

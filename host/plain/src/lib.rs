@@ -1,13 +1,18 @@
 //! Station key books in plain Rust, written from the words of document 02, L1, and not from the proved code or its definition: the
-//! outside witness of the proved reader and writer. It knows no encoder; who writes a book passes in what makes the codes, and that is
+//! outside witness of the proved reader and writer. A book knows no encoder; who writes one passes in what makes the codes, and that is
 //! told the book's header, since the edition and the cut that stand there make them. The join of two books is here too, by comparing each
 //! record with each. The two editions are L4's.
 //!
+//! [`explain`] says which rule spoke at each visit of a word (L6), from the table of cases and not from the proved rules: the outside
+//! witness of the library's listing.
+//!
 //! L1 does not say which of two faults comes first that one byte shows. Here, as in the library, a number's form comes before its value.
+mod explain;
 mod join;
 mod read;
 mod write;
 
+pub use explain::{codes, explain, Refused, Row};
 pub use join::join;
 pub use read::{read, Header, Reader, Record};
 pub use write::{add, push_number, Writer};

@@ -1,4 +1,4 @@
-use crate::{DoubleMetaphone, DoubleMetaphoneResult, Refusal};
+use crate::{DoubleMetaphone, DoubleMetaphoneResult, Explanation, Refusal};
 
 /// An edition of the letter rules. A book carries one, and its codes are made by it.
 ///
@@ -86,5 +86,17 @@ impl EditionEncoder {
     /// Both codes, and the visits that they took.
     pub fn double_metaphone(&self, word: impl AsRef<[u8]>) -> Result<DoubleMetaphoneResult, Refusal> {
         self.encoder.codes(self.edition, word.as_ref())
+    }
+
+    /// Which rule spoke at each visit that the codes take, as [`DoubleMetaphone::explain`] tells it.
+    ///
+    /// ```
+    /// # use simmerquilt::{DoubleMetaphone, Edition};
+    /// let encoder = DoubleMetaphone::default();
+    /// let case_at_c = |edition| encoder.in_edition(edition).explain("Van Chi").unwrap().rows()[4].case();
+    /// assert_eq!((case_at_c(Edition::One), case_at_c(Edition::Two)), (6, 4));
+    /// ```
+    pub fn explain(&self, word: impl AsRef<[u8]>) -> Result<Explanation, Refusal> {
+        self.encoder.explained(self.edition, word.as_ref())
     }
 }

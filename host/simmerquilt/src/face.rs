@@ -29,6 +29,17 @@ extern "C" {
         out: *mut [u64; 5],
     );
 
+    fn simmerquilt_explain(
+        edition: u64,
+        word: *const u8,
+        word_length: usize,
+        limited: bool,
+        limit: u64,
+        rows: *mut u32,
+        rows_length: usize,
+        out: *mut [u64; 3],
+    );
+
     fn simmerquilt_equal(
         first: *const u8,
         first_length: usize,
@@ -140,6 +151,26 @@ pub fn encode_in(edition: u64, word: &[u8], primary: &mut [u8], alternate: &mut 
             alternate.len(),
             limit.is_some(),
             limit.unwrap_or(0),
+            &mut out,
+        );
+    }
+    out
+}
+
+/// Number, place, rows.
+#[inline]
+pub fn explain(edition: u64, word: &[u8], limit: Option<u64>, rows: &mut [u32]) -> [u64; 3] {
+    let mut out = [0; 3];
+    // SAFETY: as above. The rows and `out` are ours to write and lie apart from each other and from the word: the borrows say so.
+    unsafe {
+        simmerquilt_explain(
+            edition,
+            word.as_ptr(),
+            word.len(),
+            limit.is_some(),
+            limit.unwrap_or(0),
+            rows.as_mut_ptr(),
+            rows.len(),
             &mut out,
         );
     }

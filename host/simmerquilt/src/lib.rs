@@ -25,7 +25,18 @@
 //! # Ok::<(), Refusal>(())
 //! ```
 //!
-//! [`encode_into`], [`encode_into_in`] and [`ask_equal`] are the library's own questions, on lent buffers and without allocation. A
+//! Where two spellings do not meet, [`DoubleMetaphone::explain`] says why: which rule spoke at each letter, and by which text.
+//!
+//! ```
+//! use simmerquilt::{DoubleMetaphone, Refusal};
+//!
+//! let why = DoubleMetaphone::default().explain("Villa")?;
+//! assert_eq!((why.rows()[2].case(), why.rows()[2].matched()), (1, Some("ILLA")));
+//! assert!(why.rows()[2].to_string().starts_with("at 2 L, case 1 by ILLA: L and nothing, passes over 1 (the next letter is L"));
+//! # Ok::<(), Refusal>(())
+//! ```
+//!
+//! [`encode_into`], [`encode_into_in`], [`explain_into`] and [`ask_equal`] are the library's own questions, on lent buffers and without allocation. A
 //! [`Book`] keeps names with their codes and says by which edition they were made; [`book`] has the library's calls for those who keep a
 //! book's bytes themselves. [`Book::join`] finds the stations of two books of one edition that meet, also where their cuts differ;
 //! [`join`] has it for those who lend their own room.
@@ -33,14 +44,18 @@
 #![warn(missing_docs)]
 
 pub mod book;
+mod cases;
 mod edition;
+mod explain;
 mod face;
 pub mod join;
 mod lent;
 mod refusal;
+mod rules;
 
 pub use book::{Book, BookRefusal, Record, Records};
 pub use edition::{Edition, EditionEncoder};
+pub use explain::{explain_into, Explanation, Gain, Row, Told, ROW};
 pub use join::{Choice, JoinRefusal, Joiner, Pair};
 pub use lent::{ask_equal, encode_into, encode_into_in, Answer, Verdict, CODE_ROOM, WORD_LIMIT};
 pub use refusal::{Refusal, Which, WordRefusal};
@@ -102,6 +117,19 @@ impl DoubleMetaphone {
         self.codes(Edition::One, word.as_ref())
     }
 
+    /// Which rule spoke at each visit that the codes take: a row for each, in order, that prints.
+    ///
+    /// ```
+    /// # use simmerquilt::DoubleMetaphone;
+    /// for row in DoubleMetaphone::default().explain("Mac Gregor")? {
+    ///     println!("{row}");
+    /// }
+    /// # Ok::<(), simmerquilt::Refusal>(())
+    /// ```
+    pub fn explain(&self, word: impl AsRef<[u8]>) -> Result<Explanation, Refusal> {
+        self.explained(Edition::One, word.as_ref())
+    }
+
     /// Whether two words have the same code by edition 1, the alternate one if `alternate` says so, else the primary one.
     ///
     /// ```
@@ -130,6 +158,11 @@ impl DoubleMetaphone {
         } else {
             self.codes_with(edition, word, &mut vec![0; 2 * room])
         }
+    }
+
+    /// The listing by an edition, for this encoder and for that of the edition.
+    fn explained(&self, edition: Edition, word: &[u8]) -> Result<Explanation, Refusal> {
+        Explanation::new(edition, word, self.limit())
     }
 
     fn limit(&self) -> Option<u64> {

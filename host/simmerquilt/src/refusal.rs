@@ -1,11 +1,11 @@
 use std::error::Error;
 use std::fmt::{self, Display, Formatter};
 
-/// Why a word got no codes, in the order in which it is tested: that the edition is not known, then the refusals 1 to 4.
+/// Why a word got no codes or no rows, in the order in which it is tested: that the edition is not known, then the refusals 1 to 4, then 9.
 #[derive(Clone, Copy, Debug, PartialEq, Eq, Hash)]
 pub enum Refusal {
-    /// 7: there is no edition of this number. Only [`encode_into_in`](crate::encode_into_in) and [`Edition`](crate::Edition) are given
-    /// numbers of editions.
+    /// 7: there is no edition of this number. Only [`encode_into_in`](crate::encode_into_in), [`explain_into`](crate::explain_into) and
+    /// [`Edition`](crate::Edition) are given numbers of editions.
     UnknownEdition,
     /// 1: the word, before trimming, is over [`WORD_LIMIT`](crate::WORD_LIMIT) bytes.
     TooLong,
@@ -19,6 +19,8 @@ pub enum Refusal {
     PrimaryShort,
     /// 4: the alternate buffer is shorter than the need. Likewise.
     AlternateShort,
+    /// 9: the room holds fewer rows than there are visits. Only [`explain_into`](crate::explain_into) lends room for rows.
+    RowsShort,
 }
 
 impl Refusal {
@@ -30,6 +32,7 @@ impl Refusal {
             2 => Some(Refusal::NotAscii { place: place as usize }),
             3 => Some(Refusal::PrimaryShort),
             4 => Some(Refusal::AlternateShort),
+            9 => Some(Refusal::RowsShort),
             // The library is proved to give no other number than 7.
             _ => Some(Refusal::UnknownEdition),
         }
@@ -44,6 +47,7 @@ impl Display for Refusal {
             Refusal::NotAscii { place } => write!(f, "the byte at place {place} is not ASCII"),
             Refusal::PrimaryShort => f.write_str("the primary buffer is too short"),
             Refusal::AlternateShort => f.write_str("the alternate buffer is too short"),
+            Refusal::RowsShort => f.write_str("the room holds fewer rows than the word has visits"),
         }
     }
 }

@@ -1,10 +1,11 @@
-//! Times the proved port beside the unchanged Rust, in turns over the same words, the station key book beside a plain reader and
-//! writer, and the join beside SQLite; prints the tables and writes docs/BENCHMARKS.md. With the word `join` it times the join alone and
+//! Times the proved port beside the unchanged Rust, in turns over the same words, the listing beside the encoder, the station key book
+//! beside a plain reader and writer, and the join beside SQLite; prints the tables and writes docs/BENCHMARKS.md. With the word `join` it times the join alone and
 //! writes nothing.
 mod book;
 mod book_report;
 mod join;
 mod join_report;
+mod listing;
 mod measure;
 mod report;
 mod sqlite;
@@ -15,22 +16,7 @@ use std::env;
 use std::fs;
 use std::io;
 use std::path::Path;
-use words::{gauges, sized, Rng};
-
-const LIMITS: [Option<usize>; 3] = [Some(4), Some(6), None];
-
-/// A list has about this many bytes, so that it stays in the cache and its words are too many to be learnt by heart.
-const BYTES: usize = 1 << 18;
-
-/// What is timed: the name of a list, and its words.
-fn lists() -> Vec<(String, Vec<String>)> {
-    let rng = &mut Rng::new(1, 0);
-    let mut lists = vec![("gauge names".to_string(), gauges(rng, 5000))];
-    for length in [16, 64, 256, 1024] {
-        lists.push((format!("words of {length} bytes"), sized(rng, (BYTES / length).min(5000), length)));
-    }
-    lists
-}
+use words::{lists, LIMITS};
 
 fn joins() -> String {
     join_report::section(join::measure().as_ref())
@@ -55,10 +41,12 @@ fn main() -> io::Result<()> {
     let (gauges, middling, long) = (&lists[0].1, &lists[2].1, &lists[4].1);
     let spent = spent(middling, long);
     println!("{}\n{}\n\n{}\n", report::table(&rows), report::targets(&rows), report::spent(&spent));
+    let listing = listing::section(&lists, &LIMITS);
+    println!("{listing}");
     let books = book_report::section(&book::measure(&oracle));
     println!("{books}");
     let joins = joins();
     println!("{joins}");
     let page = Path::new(env!("CARGO_MANIFEST_DIR")).join("../../docs/BENCHMARKS.md");
-    fs::write(page, report::page(&rows, gauges, &spent, &books, &joins))
+    fs::write(page, report::page(&rows, gauges, &spent, &listing, &books, &joins))
 }

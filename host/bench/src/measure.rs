@@ -8,10 +8,10 @@ pub const ROUNDS: usize = 301;
 
 /// The crate takes about this long a round. A scheduler's slice is longer, so that most rounds are left alone where other
 /// programs run too, and the slower of two is not stopped much more often than the faster.
-const SECONDS: f64 = 0.001;
+pub const SECONDS: f64 = 0.001;
 
 /// Encodes every word of a list.
-type Pass<'a> = &'a dyn Fn(&[String]);
+pub type Pass<'a> = &'a dyn Fn(&[String]);
 
 /// Words a second, each the median of all rounds.
 pub struct Row {
@@ -62,7 +62,7 @@ pub fn measure(oracle: &Oracle, list: &str, words: &[String], limit: Option<usiz
 }
 
 /// Words a second of one pass.
-fn rate(pass: Pass, words: &[String]) -> f64 {
+pub fn rate(pass: Pass, words: &[String]) -> f64 {
     let start = Instant::now();
     pass(words);
     words.len() as f64 / start.elapsed().as_secs_f64()

@@ -43,7 +43,12 @@ pub fn table(rows: &[Row]) -> String {
 }
 
 fn limit(row: &Row) -> String {
-    row.limit.map_or("none".to_string(), |limit| limit.to_string())
+    shown(row.limit)
+}
+
+/// A limit, or none.
+pub fn shown(limit: Option<usize>) -> String {
+    limit.map_or("none".to_string(), |limit| limit.to_string())
 }
 
 /// Words a second in thousands.
@@ -81,7 +86,7 @@ take {:.0} ns on a word of 1,024 bytes, most of what such a word costs under lim
     )
 }
 
-pub fn page(rows: &[Row], gauges: &[String], time: &Spent, books: &str, joins: &str) -> String {
+pub fn page(rows: &[Row], gauges: &[String], time: &Spent, listing: &str, books: &str, joins: &str) -> String {
     let cores = thread::available_parallelism().map_or(1, usize::from);
     let bytes: usize = gauges.iter().map(String::len).sum();
     format!(
@@ -101,6 +106,7 @@ The gauge names are {} lines of {:.1} bytes on average. Words of a given length 
 
 {}
 
+{listing}
 {books}
 {joins}
 Measured on {cores} cores, {ARCH}, {OS}, by this command in host/, which writes this page:

@@ -1,10 +1,12 @@
 //! Holds the proved port against the unchanged Rust: number, place, both lengths, visits and every byte of both buffers and of
 //! the guards around them. Edition 2, which no crate has, is held in the same way against the copy of the Rust that reads as it does, on
-//! the same words, and an edition that is not known against its refusal. Exits with 1 at a difference, shown on its smallest input, and
-//! with 2 if it is called wrongly.
+//! the same words, and an edition that is not known against its refusal. The listing of which rule spoke, which no crate has, is held
+//! against the evaluator of `plain`, number by number, and that evaluator's codes and visits against the Rust's. Exits with 1 at a
+//! difference, shown on its smallest input, and with 2 if it is called wrongly.
 mod draw;
 mod jobs;
 mod lent;
+mod listing;
 mod port;
 mod run;
 mod shrink;
@@ -79,6 +81,7 @@ fn report(outcome: &Outcome) -> ExitCode {
         "compare: each word also by edition 2, which differs from edition 1 on {}, and by an edition that is not known",
         grouped(outcome.apart)
     );
+    println!("compare: each of these also listed, rule by rule, beside the plain evaluator: {} rows", grouped(outcome.rows));
     let comparisons = grouped(outcome.comparisons());
     match &outcome.difference {
         None => {

@@ -19,6 +19,8 @@ pub struct Outcome {
     pub numbers: [u64; 5],
     /// Encoded words on which the editions differ.
     pub apart: u64,
+    /// Rows of listings.
+    pub rows: u64,
     pub difference: Option<(usize, String)>,
 }
 
@@ -40,6 +42,7 @@ impl Outcome {
         self.drawn += other.drawn;
         self.pairs += other.pairs;
         self.apart += other.apart;
+        self.rows += other.rows;
         for (sum, number) in self.numbers.iter_mut().zip(other.numbers) {
             *sum += number;
         }
@@ -97,6 +100,7 @@ impl<P: Port> Run<'_, P> {
         }
         outcome.numbers = checker.numbers;
         outcome.apart = checker.apart;
+        outcome.rows = checker.rows;
         outcome
     }
 }

@@ -4,7 +4,7 @@ use crate::port::{Library, Port};
 use crate::run::{Outcome, Run};
 use crate::{grouped, options};
 use oracle::{Oracle, NOT_AT_HAND};
-use simmerquilt::{Answer, Verdict, CODE_ROOM};
+use simmerquilt::{Answer, Told, Verdict, CODE_ROOM, ROW};
 
 fn outcome(port: &impl Port) -> Option<Outcome> {
     let Some(oracle) = Oracle::at_hand() else {
@@ -21,6 +21,7 @@ fn the_library_agrees_with_the_rust() {
     assert!(outcome.numbers.iter().all(|count| *count > 0));
     // The editions are told apart often enough that a port without edition 2 is found.
     assert!(outcome.apart > 5_000, "{}", outcome.apart);
+    assert!(outcome.rows > 1_000_000, "{}", outcome.rows);
 }
 
 /// The library with something done to its answers afterwards.
@@ -38,10 +39,6 @@ where
         self.0(word, (primary, alternate), limit, answer)
     }
 
-    fn encode_in(&self, edition: u64, word: &[u8], primary: &mut [u8], alternate: &mut [u8], limit: Option<u64>) -> Answer {
-        Library.encode_in(edition, word, primary, alternate, limit)
-    }
-
     fn equal(&self, first: &[u8], second: &[u8], limit: Option<u64>, alternate: bool) -> Verdict {
         self.1(first, second, Library.equal(first, second, limit, alternate))
     }
@@ -54,16 +51,8 @@ impl<F> Port for FaultyIn<F>
 where
     F: Fn(u64, &[u8], Buffers, Option<u64>) -> Answer + Sync,
 {
-    fn encode(&self, word: &[u8], primary: &mut [u8], alternate: &mut [u8], limit: Option<u64>) -> Answer {
-        Library.encode(word, primary, alternate, limit)
-    }
-
     fn encode_in(&self, edition: u64, word: &[u8], primary: &mut [u8], alternate: &mut [u8], limit: Option<u64>) -> Answer {
         self.0(edition, word, (primary, alternate), limit)
-    }
-
-    fn equal(&self, first: &[u8], second: &[u8], limit: Option<u64>, alternate: bool) -> Verdict {
-        Library.equal(first, second, limit, alternate)
     }
 }
 
@@ -279,14 +268,6 @@ fn finds_a_visit_too_many_by_edition_2() {
 struct EqualBy2;
 
 impl Port for EqualBy2 {
-    fn encode(&self, word: &[u8], primary: &mut [u8], alternate: &mut [u8], limit: Option<u64>) -> Answer {
-        Library.encode(word, primary, alternate, limit)
-    }
-
-    fn encode_in(&self, edition: u64, word: &[u8], primary: &mut [u8], alternate: &mut [u8], limit: Option<u64>) -> Answer {
-        Library.encode_in(edition, word, primary, alternate, limit)
-    }
-
     fn equal(&self, first: &[u8], second: &[u8], limit: Option<u64>, alternate: bool) -> Verdict {
         let mut verdict = Library.equal(first, second, limit, alternate);
         if verdict.number == 0 {
@@ -308,6 +289,71 @@ impl Port for EqualBy2 {
 #[test]
 fn finds_equality_asked_by_edition_2() {
     found(EqualBy2, "equal b\"");
+}
+
+/// The library with something done to its listings afterwards: to the answer and to the room.
+struct FaultyRows<F>(F);
+
+impl<F> Port for FaultyRows<F>
+where
+    F: Fn(&[u8], Option<u64>, &mut [u32], Told) -> Told + Sync,
+{
+    fn explain(&self, edition: u64, word: &[u8], limit: Option<u64>, rows: &mut [u32]) -> Told {
+        let told = Library.explain(edition, word, limit, rows);
+        self.0(word, limit, rows, told)
+    }
+}
+
+/// Asserts that the fault is found in a listing, and that the report opens with this.
+fn listing(fault: impl Fn(&[u8], Option<u64>, &mut [u32], Told) -> Told + Sync, opening: &str) {
+    let Some(outcome) = outcome(&FaultyRows(fault)) else { return };
+    let (_, report) = outcome.difference.expect("the fault is found");
+    assert!(report.starts_with(opening), "{report}");
+    assert!(report.contains(" in the listing by edition "), "{report}");
+}
+
+/// Does this to each row that was written.
+fn each_row(rows: &mut [u32], told: Told, change: impl Fn(&mut [u32])) -> Told {
+    rows.chunks_exact_mut(ROW).take(told.rows).for_each(change);
+    told
+}
+
+#[test]
+fn finds_a_text_that_is_not_told() {
+    listing(|_, _, rows, told| each_row(rows, told, |row| row[3] = 0), "encode b\"CC\"");
+}
+
+#[test]
+fn finds_a_case_one_off() {
+    listing(|_, _, rows, told| each_row(rows, told, |row| row[2] += u32::from(row[1] == u32::from(b'Z'))), "encode b\"Z\"");
+}
+
+#[test]
+fn finds_a_clipped_gain() {
+    let fault = |_: &[u8], limit: Option<u64>, rows: &mut [u32], told: Told| {
+        each_row(rows, told, |row| row[4] = if limit == Some(1) { row[4] % 256 } else { row[4] })
+    };
+    listing(fault, "encode b\"DG\", limit Some(1)");
+}
+
+#[test]
+fn finds_a_number_written_behind_the_rows() {
+    let fault = |_: &[u8], _, rows: &mut [u32], told: Told| {
+        if let Some(number) = rows.get_mut(ROW * told.rows) {
+            *number = 0;
+        }
+        told
+    };
+    listing(fault, "encode b\"\"");
+}
+
+#[test]
+fn finds_9_given_before_2() {
+    let fault = |word: &[u8], _, rows: &mut [u32], told: Told| match told.number {
+        2 if rows.len() / ROW < word.len() => Told { number: 9, place: 0, rows: 0 },
+        _ => told,
+    };
+    listing(fault, "encode b\"\\x");
 }
 
 #[test]

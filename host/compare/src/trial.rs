@@ -1,8 +1,9 @@
-//! One comparison: calls of the port, and what document 01, L4 and the Rust say that they must answer.
+//! One comparison: calls of the port, and what document 01, L4, L6, the Rust and the plain evaluator say that they must answer.
 use crate::lent::Lent;
+use crate::listing::{self, Listed, Room};
 use crate::port::Port;
 use oracle::{Codes, Oracle, LARGEST_LIMIT};
-use simmerquilt::{Answer, Verdict, WORD_LIMIT};
+use simmerquilt::{Answer, Verdict, ROW, WORD_LIMIT};
 use std::fmt::{self, Display, Formatter};
 
 /// How the lent buffers stand to the need.
@@ -29,6 +30,18 @@ impl Rooms {
             Rooms::Nothing => (0, 0),
         }
     }
+
+    /// The numbers of a room for rows: one or a row too few where a buffer is short, and such as make no row where there is more.
+    fn numbers(self, need: usize) -> usize {
+        match self {
+            Rooms::Exact => need,
+            Rooms::Spare => need + 2 * ROW + 3,
+            Rooms::PrimaryShort => need.saturating_sub(1),
+            Rooms::AlternateShort => need.saturating_sub(ROW),
+            Rooms::BothShort => need / 2,
+            Rooms::Nothing => 0,
+        }
+    }
 }
 
 /// Numbers that are no edition: beside those that are, those that look like them in fewer bits, and the largest.
@@ -45,7 +58,7 @@ enum Call {
 
 #[derive(Clone, Copy, Debug)]
 pub enum Trial<'a> {
-    /// By each call: with no edition, by both editions, and by one that is not known.
+    /// By each call: with no edition, by both editions, and by one that is not known; codes, and by each edition the listing too.
     Encode {
         word: &'a [u8],
         limit: Option<u64>,
@@ -84,14 +97,17 @@ pub struct Checker<'a, P> {
     oracle: Oracle,
     port: &'a P,
     lent: Lent,
+    room: Room,
     pub numbers: [u64; 5],
     /// Of the words that were encoded, those on which the editions differ.
     pub apart: u64,
+    /// The rows of listings that were compared.
+    pub rows: u64,
 }
 
 impl<'a, P: Port> Checker<'a, P> {
     pub fn new(oracle: Oracle, port: &'a P) -> Self {
-        Checker { oracle, port, lent: Lent::new(), numbers: [0; 5], apart: 0 }
+        Checker { oracle, port, lent: Lent::new(), room: Room::new(), numbers: [0; 5], apart: 0, rows: 0 }
     }
 
     pub fn check(&mut self, trial: Trial) -> Result<(), Difference> {
@@ -114,7 +130,14 @@ impl<'a, P: Port> Checker<'a, P> {
         self.check_call(asked, Call::Plain, &first)?;
         self.check_call(asked, Call::In(1), &first)?;
         self.check_call(asked, Call::In(2), &second)?;
-        self.check_call(asked, Call::In(unknown), &refused((7, 0)))
+        self.check_call(asked, Call::In(unknown), &refused((7, 0)))?;
+
+        for (edition, encoded) in [(1, &first), (2, &second), (unknown, &refused((7, 0)))] {
+            let listed = plain::explain(edition, word, limit, usize::MAX);
+            makes(&listed, limit, encoded)?;
+            self.check_listing(asked, edition, rooms, &listed)?;
+        }
+        Ok(())
     }
 
     fn check_call(&mut self, asked: Asked, call: Call, (expected, codes): &Expected) -> Result<(), Difference> {
@@ -130,6 +153,22 @@ impl<'a, P: Port> Checker<'a, P> {
         Err(Difference {
             expected: format!("{expected:?}, codes {:?} and {:?}", codes.primary, codes.alternate),
             got: format!("{got:?}, {} {call}", self.lent.shown()),
+        })
+    }
+
+    /// The listing by an edition, in a room that stands to its need as the buffers do to theirs.
+    fn check_listing(&mut self, asked: Asked, edition: u64, rooms: Rooms, listed: &Listed) -> Result<(), Difference> {
+        let length = rooms.numbers(listing::need(listed));
+        let (expected, rows) = listing::expected(listed, length);
+        self.rows += rows.len() as u64;
+        let got = self.port.explain(edition, asked.word, asked.limit, self.room.lent(length));
+        if got == expected && self.room.holds(rows) {
+            return Ok(());
+        }
+        let wanted: Vec<[u32; ROW]> = rows.iter().map(plain::Row::numbers).collect();
+        Err(Difference {
+            expected: format!("{expected:?}, rows {wanted:?}"),
+            got: format!("{got:?}, room {} in the listing by edition {edition}", self.room.shown()),
         })
     }
 
@@ -182,6 +221,20 @@ impl Asked<'_> {
 fn refused((number, place): (u64, usize)) -> Expected {
     let none = Codes { primary: String::new(), alternate: String::new() };
     (Answer { number, place, primary: 0, alternate: 0, visits: 0 }, none)
+}
+
+/// The evaluator that the listing is held against has as many rows as the Rust has visits, and its gains are the Rust's codes.
+fn makes(listed: &Listed, limit: Option<u64>, (answer, codes): &Expected) -> Result<(), Difference> {
+    let Ok(rows) = listed else { return Ok(()) };
+    let (primary, alternate) = plain::codes(rows, limit);
+    let same = rows.len() == answer.visits && primary == codes.primary.as_bytes() && alternate == codes.alternate.as_bytes();
+    if same || answer.number != 0 {
+        return Ok(());
+    }
+    Err(Difference {
+        expected: format!("{answer:?}, codes {:?} and {:?}", codes.primary, codes.alternate),
+        got: format!("{rows:?} by the plain evaluator"),
+    })
 }
 
 /// The word as text, or the number of its refusal and the place.

@@ -1,6 +1,6 @@
 //! Times the proved port beside the unchanged Rust, in turns over the same words, the listing beside the encoder, the station key book
-//! beside a plain reader and writer, and the join beside SQLite; prints the tables and writes docs/BENCHMARKS.md. With the word `join` it times the join alone and
-//! writes nothing.
+//! beside a plain reader and writer, and the join beside SQLite; prints the tables and writes docs/BENCHMARKS.md. With the word `join` it
+//! times the join alone and writes nothing.
 mod book;
 mod book_report;
 mod join;

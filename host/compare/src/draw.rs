@@ -1,8 +1,8 @@
 //! What a drawn word is put to the port with; the words themselves are those of the crate `words`.
-use crate::trial::{Rooms, UNKNOWN};
+use crate::trial::Rooms;
 use oracle::LARGEST_LIMIT;
-use words::Rng;
 pub use words::{alike, word, Kind};
+use words::{Rng, UNKNOWN_EDITIONS};
 
 /// None, or a limit: small ones, those about the need, the largest that the Rust is asked for, and any number.
 pub fn limit(rng: &mut Rng, length: usize) -> Option<u64> {
@@ -18,8 +18,8 @@ pub fn limit(rng: &mut Rng, length: usize) -> Option<u64> {
 
 /// A number that is no edition.
 pub fn unknown(rng: &mut Rng) -> u64 {
-    match rng.below(UNKNOWN.len() + 1) {
-        at if at < UNKNOWN.len() => UNKNOWN[at],
+    match rng.below(UNKNOWN_EDITIONS.len() + 1) {
+        at if at < UNKNOWN_EDITIONS.len() => UNKNOWN_EDITIONS[at],
         _ => rng.number().max(3),
     }
 }

@@ -1,9 +1,9 @@
 //! What is compared, cut into jobs that threads take in turn. A job draws from its own stream of the seed, so what is compared
 //! does not hang on the number of threads.
 use crate::draw::{self, Kind};
-use crate::trial::{Rooms, Trial, UNKNOWN};
+use crate::trial::{Rooms, Trial};
 use simmerquilt::WORD_LIMIT;
-use words::{Rng, SHORT};
+use words::{Rng, SHORT, UNKNOWN_EDITIONS};
 
 const ALPHABET: &[u8; 27] = b"ABCDEFGHIJKLMNOPQRSTUVWXYZ ";
 
@@ -104,7 +104,7 @@ impl Job {
     pub fn run<E>(self, seed: u64, mut check: impl FnMut(Trial) -> Result<(), E>) -> Result<(), E> {
         match self {
             Job::Every { length, first, limits, rooms } => every_word(length, first, |word| {
-                for (&limit, unknown) in limits.iter().zip(UNKNOWN.into_iter().cycle()) {
+                for (&limit, unknown) in limits.iter().zip(UNKNOWN_EDITIONS.into_iter().cycle()) {
                     for &rooms in rooms {
                         check(Trial::Encode { word, limit, rooms, unknown })?;
                     }

@@ -1,5 +1,5 @@
 //! A room for the rows of a listing, with guards around it, and what must be in it then: the rows that the plain evaluator makes.
-use plain::{Refused, Row};
+use plain::{in_room, Listed, Refused, Row};
 use simmerquilt::{Told, ROW};
 
 /// Numbers before and behind the room.
@@ -7,9 +7,6 @@ const GUARD: usize = 8;
 
 /// What every number holds before a call. No number of a row is as large.
 const HELD: u32 = 0xeeee_eeee;
-
-/// What the evaluator makes of a word by an edition under a limit, in room enough.
-pub type Listed = Result<Vec<Row>, Refused>;
 
 /// One stretch of memory: guard, room, guard.
 pub struct Room {
@@ -54,9 +51,8 @@ pub fn need(listed: &Listed) -> usize {
 
 /// The answer on a room of so many numbers, and the rows that are in it then.
 pub fn expected(listed: &Listed, room: usize) -> (Told, &[Row]) {
-    match listed {
-        Err(Refused { number, place }) => (Told { number: *number, place: *place, rows: 0 }, &[]),
-        Ok(rows) if room / ROW < rows.len() => (Told { number: 9, place: 0, rows: 0 }, &[]),
+    match in_room(listed, room / ROW) {
+        Err(Refused { number, place }) => (Told { number, place, rows: 0 }, &[]),
         Ok(rows) => (Told { number: 0, place: 0, rows: rows.len() }, rows),
     }
 }

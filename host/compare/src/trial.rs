@@ -1,8 +1,9 @@
 //! One comparison: calls of the port, and what document 01, L4, L6, the Rust and the plain evaluator say that they must answer.
 use crate::lent::Lent;
-use crate::listing::{self, Listed, Room};
+use crate::listing::{self, Room};
 use crate::port::Port;
 use oracle::{Codes, Oracle, LARGEST_LIMIT};
+use plain::Listed;
 use simmerquilt::{Answer, Verdict, ROW, WORD_LIMIT};
 use std::fmt::{self, Display, Formatter};
 
@@ -43,9 +44,6 @@ impl Rooms {
         }
     }
 }
-
-/// Numbers that are no edition: beside those that are, those that look like them in fewer bits, and the largest.
-pub const UNKNOWN: [u64; 8] = [3, 0, u64::MAX, (1 << 32) + 1, (1 << 32) + 2, 257, 258, 4];
 
 /// Which call encodes a word.
 #[derive(Clone, Copy, Debug, PartialEq, Eq)]
@@ -133,7 +131,7 @@ impl<'a, P: Port> Checker<'a, P> {
         self.check_call(asked, Call::In(unknown), &refused((7, 0)))?;
 
         for (edition, encoded) in [(1, &first), (2, &second), (unknown, &refused((7, 0)))] {
-            let listed = plain::explain(edition, word, limit, usize::MAX);
+            let listed = plain::listed(edition, word, limit);
             makes(&listed, limit, encoded)?;
             self.check_listing(asked, edition, rooms, &listed)?;
         }

@@ -44,9 +44,26 @@ pub struct Refused {
     pub place: usize,
 }
 
+/// What is listed of a word, or why it is refused.
+pub type Listed = Result<Vec<Row>, Refused>;
+
 /// The visits of a word under an edition and a limit, in order, where a room holds as many rows. It is refused, by the first that is so,
 /// for an edition that is not known, a word over [`NAME_LIMIT`] bytes before trimming, a byte that is not ASCII, and too small a room.
-pub fn explain(edition: u64, word: &[u8], limit: Option<u64>, room_rows: usize) -> Result<Vec<Row>, Refused> {
+pub fn explain(edition: u64, word: &[u8], limit: Option<u64>, room_rows: usize) -> Listed {
+    in_room(&listed(edition, word, limit), room_rows).map(<[Row]>::to_vec)
+}
+
+/// The last of these refusals: of rows that were listed, where a room does not hold them all.
+pub fn in_room(listed: &Listed, room_rows: usize) -> Result<&[Row], Refused> {
+    match listed {
+        Err(refused) => Err(*refused),
+        Ok(rows) if rows.len() > room_rows => Err(Refused { number: ROOM_SHORT, place: 0 }),
+        Ok(rows) => Ok(rows),
+    }
+}
+
+/// The visits of a word as [`explain`] has them, in room enough.
+pub fn listed(edition: u64, word: &[u8], limit: Option<u64>) -> Listed {
     let refused = |number, place| Err(Refused { number, place });
     let Some(table) = Table::of(edition) else { return refused(UNKNOWN, 0) };
     if word.len() > NAME_LIMIT {
@@ -55,11 +72,7 @@ pub fn explain(edition: u64, word: &[u8], limit: Option<u64>, room_rows: usize) 
     if let Some(place) = word.iter().position(|byte| !byte.is_ascii()) {
         return refused(NOT_ASCII, place);
     }
-    let rows = visits(table, &Word::new(word), limit);
-    if rows.len() > room_rows {
-        return refused(ROOM_SHORT, 0);
-    }
-    Ok(rows)
+    Ok(visits(table, &Word::new(word), limit))
 }
 
 /// Both codes that rows make: what they gained, joined and clipped to the limit.

@@ -12,7 +12,7 @@ mod join;
 mod read;
 mod write;
 
-pub use explain::{codes, explain, Refused, Row};
+pub use explain::{codes, explain, in_room, listed, Listed, Refused, Row};
 pub use join::join;
 pub use read::{read, Header, Reader, Record};
 pub use write::{add, push_number, Writer};

@@ -1,6 +1,7 @@
 //! Document 01's edges, which are those of both editions: what is refused, by which number, and what is left alone.
 use simmerquilt::{ask_equal, encode_into, encode_into_in, Answer, DoubleMetaphone, Edition, Refusal, Which, WordRefusal};
 use simmerquilt::{CODE_ROOM, WORD_LIMIT};
+use words::UNKNOWN_EDITIONS;
 
 const HELD: u8 = 0xee;
 
@@ -95,15 +96,12 @@ fn a_refusal_changes_nothing() {
     }
 }
 
-/// Numbers that are no edition: beside those that are, and those that look like them in fewer bits.
-const UNKNOWN: [u64; 9] = [0, 3, 4, 257, 258, (1 << 32) + 1, (1 << 32) + 2, u64::MAX - 1, u64::MAX];
-
 #[test]
 fn an_unknown_edition_is_told_before_all_else() {
     let long = [0xff; WORD_LIMIT + 1];
     let cases: [(&[u8], usize, usize); 6] =
         [(b"Van Chi", 13, 13), (&long, 0, 0), (&long[..9], 9, 9), (b"Weser", 8, 9), (b"Weser", 9, 8), (b"", 0, 0)];
-    for edition in UNKNOWN {
+    for edition in UNKNOWN_EDITIONS.into_iter().chain([u64::MAX - 1]) {
         for (word, p, a) in cases {
             for limit in [None, Some(0), Some(4), Some(u64::MAX)] {
                 let refused = Answer { number: 7, place: 0, primary: 0, alternate: 0, visits: 0 };

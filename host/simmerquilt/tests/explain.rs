@@ -1,8 +1,8 @@
 //! The listing of the rules that spoke, beside the one that `plain` makes from the table of cases: every row, every number of the lent
 //! room, every refusal, and the codes that the gains make.
-use plain::Row;
+use plain::{in_room, Listed, Row};
 use simmerquilt::{encode_into_in, explain_into, CODE_ROOM, WORD_LIMIT};
-use words::{mixed, word, Kind, Rng, EXAMPLES, FIRST_TOLD, TOLD};
+use words::{mixed, word, Kind, Rng, EXAMPLES, FIRST_TOLD, TOLD, UNKNOWN_EDITIONS};
 
 const HELD: u32 = 0xeeee_eeee;
 
@@ -11,9 +11,6 @@ const ROW: usize = 7;
 
 const EDITIONS: [u64; 2] = [1, 2];
 const LIMITS: [Option<u64>; 5] = [None, Some(0), Some(1), Some(4), Some(6)];
-
-/// Numbers that are no edition: beside those that are, and those that look like them in fewer bits.
-const UNKNOWN: [u64; 8] = [0, 3, 4, 257, 258, (1 << 32) + 1, (1 << 32) + 2, u64::MAX];
 
 /// How many drawn words the library is asked for, each by both editions at every limit.
 const WORDS: usize = 100_000;
@@ -33,12 +30,12 @@ struct Listing<'a> {
     edition: u64,
     word: &'a [u8],
     limit: Option<u64>,
-    expected: Result<Vec<Row>, plain::Refused>,
+    expected: Listed,
 }
 
 impl<'a> Listing<'a> {
     fn new(edition: u64, word: &'a [u8], limit: Option<u64>) -> Self {
-        Listing { edition, word, limit, expected: plain::explain(edition, word, limit, usize::MAX) }
+        Listing { edition, word, limit, expected: plain::listed(edition, word, limit) }
     }
 
     fn shown(&self) -> String {
@@ -52,9 +49,8 @@ impl<'a> Listing<'a> {
 
     /// Asserts the answer on a room of so many numbers, and each of them.
     fn fills(&self, room: usize) {
-        let (answer, rows): (Answer, &[Row]) = match &self.expected {
+        let (answer, rows): (Answer, &[Row]) = match in_room(&self.expected, room / ROW) {
             Err(refused) => ((refused.number, refused.place, 0), &[]),
-            Ok(rows) if room / ROW < rows.len() => ((9, 0, 0), &[]),
             Ok(rows) => ((0, 0, rows.len()), rows),
         };
         let mut held: Vec<u32> = rows.iter().flat_map(Row::numbers).collect();
@@ -248,7 +244,7 @@ fn refusals_come_in_their_order() {
     ];
     for (word, on_nothing, on_enough) in words {
         for room in [0, ROW - 1, ROW * WORD_LIMIT] {
-            for edition in UNKNOWN {
+            for edition in UNKNOWN_EDITIONS {
                 for limit in LIMITS {
                     assert_eq!(lent(edition, word, limit, room), ((7, 0, 0), vec![HELD; room]), "edition {edition}");
                 }

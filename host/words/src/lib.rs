@@ -1,5 +1,6 @@
 //! Words for the comparison, the benchmark and the stored answers, the same from the same seed.
 mod draw;
+mod editions;
 mod examples;
 mod fragments;
 mod gauges;
@@ -10,6 +11,7 @@ mod rng;
 mod told;
 
 pub use draw::{alike, mixed, word, Kind, SHORT};
+pub use editions::UNKNOWN_EDITIONS;
 pub use examples::EXAMPLES;
 pub use fragments::FRAGMENTS;
 pub use gauges::{gauges, respelt, sized};

@@ -148,14 +148,19 @@ void simmerquilt_equal(const uint8_t *first, size_t first_length,
 /* The station key book: a header and records, in bytes that the caller keeps.
  *
  * A number is written in groups of seven bits, low group first; the high bit of a byte says that more follow. Only the shortest
- * form is good, at most four groups. The header is the format, 1, the rule edition, 1 or 2, and the cut: 0 for no limit, else the
- * limit plus 1. A record is the station, the name's length and the name, the primary code's length and the code, and the same
- * of the alternate code. Stations rise strictly. A name is stored as it is lent, untrimmed; its codes are those that
- * simmerquilt_encode_in gives by the header's edition and under its cut. A new book carries edition 2; one that was stored under
- * edition 1 is read and added to under edition 1.
+ * form is good, at most four groups. The header is the format, 1 or 2, the rule edition, 1 or 2, and the cut: 0 for no limit, else the
+ * limit plus 1. A record is, in format 2, the kind, 1 for live or 0 for closed, and in both formats the station, the name's length and
+ * the name, the primary code's length and the code, and the same of the alternate code. In format 1 all records are live. Stations rise
+ * strictly, over live and closed records alike. A name is stored as it is lent, untrimmed; its codes are those that
+ * simmerquilt_encode_in gives by the header's edition and under its cut. A new book carries format 2 and edition 2; one that was stored
+ * under format 1 or edition 1 is read and added to as it is.
+ *
+ * A station is closed by its kind alone, so that its record stays. It gives its room back when a record is added that does not fit
+ * behind the book as it stands: the book is then closed up first, which is to say that its live records, in order and byte for byte, come
+ * to lie directly behind the header, and the closed ones are gone.
  *
  * The room, the name and the answer must lie apart from each other. A refusal writes nothing but the answer, whose other numbers
- * are then 0. Bytes behind the new end of a book keep what they held.
+ * are then 0. Bytes behind the new end of a book keep what they held when the call began, also where it is closed up.
  *
  * No.  given exactly when
  * 0    none of the others
@@ -163,41 +168,53 @@ void simmerquilt_equal(const uint8_t *first, size_t first_length,
  * 2    some byte of a name is 128 or more
  * 5    a number is in a bad form or needs more than four groups
  * 6    the book ends inside something
- * 7    the format or the edition is not known: the format is not 1, or the edition neither 1 nor 2
+ * 7    the format, the edition or a kind is not known: the format or the edition is neither 1 nor 2, or the kind above 1; or a station
+ *      of a book of format 1 is to be closed
  * 8    a station is not above the one before
  * 9    the lent room is too short for the result
+ * 11   no live record has the station that is to be closed
  *
  * In a book the fault that is met first is given, from byte to byte: a number is judged when it is whole, its form before its
- * value, and 6 is met at the end. A stored code may hold any bytes. A new record is tested for 1, 2, 5, 8 and 9 in this order.
+ * value, and 6 is met at the end. A stored code may hold any bytes. A new record is tested for 1, 2, 5, 8 and 9 in this order. Where it
+ * fits behind the book as it stands, 8 counts every record; where it does not, 8 counts live records only, and 9 says that the header,
+ * the live records and the new one do not fit the room.
  */
 enum {
     SIMMERQUILT_BAD_NUMBER = 5,
     SIMMERQUILT_CUT_SHORT = 6,
     SIMMERQUILT_UNKNOWN = 7,
     SIMMERQUILT_NOT_RISING = 8,
-    SIMMERQUILT_ROOM_SHORT = 9
+    SIMMERQUILT_ROOM_SHORT = 9,
+    SIMMERQUILT_NOT_LIVE = 11
+};
+
+/* What a record's kind may be. */
+enum {
+    SIMMERQUILT_CLOSED = 0,
+    SIMMERQUILT_LIVE = 1
 };
 
 enum {
     /* The first number that four groups do not hold; stations and cuts are below it. */
     SIMMERQUILT_NUMBER_END = 268435456,
-    /* The format and the edition of a new book; a stored one may carry an older edition. */
-    SIMMERQUILT_FORMAT = 1,
+    /* The format and the edition of a new book; a stored one may carry older ones. */
+    SIMMERQUILT_FORMAT = 2,
     SIMMERQUILT_EDITION = 2,
     /* A room of this length is never too short for a new book. */
     SIMMERQUILT_HEADER_ROOM = 6,
     /* So many bytes behind a book are never too few for one more record. */
-    SIMMERQUILT_RECORD_ROOM = 5128
+    SIMMERQUILT_RECORD_ROOM = 5129
 };
 
-/* Where each number stands in the answer of simmerquilt_book_start and of simmerquilt_book_add. */
+/* Where each number stands in the answer of simmerquilt_book_start, of simmerquilt_book_add and of simmerquilt_book_close. */
 enum {
     SIMMERQUILT_BOOK_NUMBER,
     SIMMERQUILT_BOOK_LENGTH,
     SIMMERQUILT_BOOK_COUNT
 };
 
-/* Writes a book of edition 2 without records to the front of the room. The answer is the number (0, 5 or 9) and the book's length. */
+/* Writes a book of format 2 and edition 2 without records to the front of the room. The answer is the number (0, 5 or 9) and the book's
+ * length. */
 void simmerquilt_book_start(uint8_t *room, size_t room_length,
                             bool limited, uint64_t limit,
                             uint64_t answer[SIMMERQUILT_BOOK_COUNT]);
@@ -231,13 +248,16 @@ enum {
     SIMMERQUILT_NEXT_ALTERNATE_LENGTH,
     SIMMERQUILT_NEXT_PLACE,
     SIMMERQUILT_NEXT_FLOOR,
+    SIMMERQUILT_NEXT_KIND,
     SIMMERQUILT_NEXT_COUNT
 };
 
-/* Reads the record at a cursor. The answer is the number (0, 1, 2, 5, 6 or 8), 1 for a record found, else 0, the record, with where
- * in the book each text starts and how long it is, and the cursor of the record behind it. At the end of the book and past it the
- * number is 0, nothing is found, and all other numbers are 0. */
+/* Reads the record at a cursor, live or closed, of a book with this format and edition. The answer is the number (0, 1, 2 or 5 to 8), 1
+ * for a record found, else 0, the record, with where in the book each text starts and how long it is, the cursor of the record behind it,
+ * and the record's kind, which in format 1 is SIMMERQUILT_LIVE. At the end of the book and past it the number is 0, nothing is found,
+ * and all other numbers are 0. 7 is given for a format or an edition that is not known, whatever the cursor is, also there. */
 void simmerquilt_book_next(const uint8_t *book, size_t book_length,
+                           uint32_t format, uint32_t edition,
                            uint64_t place, uint32_t floor,
                            uint64_t answer[SIMMERQUILT_NEXT_COUNT]);
 
@@ -249,17 +269,19 @@ enum {
     SIMMERQUILT_READ_CUT,
     SIMMERQUILT_READ_RECORDS,
     SIMMERQUILT_READ_FLOOR,
+    SIMMERQUILT_READ_LIVE,
     SIMMERQUILT_READ_COUNT
 };
 
-/* Reads a whole book. The answer is the number (0, 1, 2 or 5 to 8), the header, how many records there are, and the least
- * station that a further one may have. */
+/* Reads a whole book. The answer is the number (0, 1, 2 or 5 to 8), the header, how many records there are, closed ones too, the least
+ * station that a further one may have behind all these, and how many of them are live. */
 void simmerquilt_book_read(const uint8_t *book, size_t book_length,
                            uint64_t answer[SIMMERQUILT_READ_COUNT]);
 
-/* Adds a record to the book in the first `length` bytes of the room. The whole book is read first, and its fault is given; then
+/* Adds a live record to the book in the first `length` bytes of the room. The whole book is read first, and its fault is given; then
  * the record is tested. Where the room has fewer bytes than `length`, those that are there are read, and if they show no fault
- * the number is 6. The answer is the number (0, 1, 2 or 5 to 9) and the new length. */
+ * the number is 6. A book that the record does not fit behind is closed up, so that the new length may be less than `length`. The answer
+ * is the number (0, 1, 2 or 5 to 9) and the new length. */
 void simmerquilt_book_add(uint8_t *room, size_t room_length,
                           uint64_t length,
                           uint64_t station,
@@ -276,7 +298,9 @@ enum {
 
 /* Adds a record as simmerquilt_book_add does, but goes on from a known good end and does not read the book again: the header,
  * the length and the floor are those that simmerquilt_book_read told of these bytes, or the append before. 7 is given for a format
- * or an edition that is not known, then 6 for a length beyond the room; then the record is tested. The answer is the number
+ * or an edition that is not known, then 6 for a length beyond the room; then the record is tested. It never closes the book up: in
+ * format 2 a record that does not fit behind the end is 9, and is not tested for 8, since closed records may give room back and then only
+ * live ones count. Who gets this 9 turns to simmerquilt_book_add, which reads the book and answers both. The answer is the number
  * (0, 1, 2 or 5 to 9), the new length and the new floor. */
 void simmerquilt_book_append(uint8_t *room, size_t room_length,
                              uint32_t format, uint32_t edition, uint32_t cut,
@@ -285,8 +309,18 @@ void simmerquilt_book_append(uint8_t *room, size_t room_length,
                              const uint8_t *name, size_t name_length,
                              uint64_t answer[SIMMERQUILT_APPEND_COUNT]);
 
-/* The join of two books of one edition, whose cuts may differ: all pairs of a station of the first and a station of the second book
- * that meet.
+/* Closes a station of the book in the first `length` bytes of the room: the kind of its record, which is one byte, becomes
+ * SIMMERQUILT_CLOSED, and nothing else changes. The whole book is read first, as simmerquilt_book_add reads it, and its fault is given; a
+ * book of format 1 is 7 at its format number, whatever is behind that. Then 11 is given where no live record has this station: there is
+ * none, or it is closed, or the number is no station. The answer is the number (0, 1, 2, 5 to 8 or 11) and the length, which is the one
+ * stated. */
+void simmerquilt_book_close(uint8_t *room, size_t room_length,
+                            uint64_t length,
+                            uint64_t station,
+                            uint64_t answer[SIMMERQUILT_BOOK_COUNT]);
+
+/* The join of two books of one edition, whose cuts and formats may differ: all pairs of a station of the first and a station of the
+ * second book that meet. Closed records are skipped on both sides.
  *
  * Two stations meet where their primary codes, or the alternate ones where `alternate` is true, agree on their first m bytes: m is
  * the smaller limit of both books, and no limit puts no bound. A code shorter than m counts whole, so that it meets none that is
@@ -318,9 +352,9 @@ enum {
     SIMMERQUILT_JOIN_COUNT
 };
 
-/* How many words of scratch the join of books with so many records needs: 3 * first + 8 * second + 1, or SIZE_MAX where that does
- * not fit. */
-size_t simmerquilt_join_scratch(size_t first_records, size_t second_records);
+/* How many words of scratch the join of books with so many live records needs: 3 * first + 8 * second + 1, or SIZE_MAX where that does
+ * not fit. simmerquilt_book_read tells how many are live. */
+size_t simmerquilt_join_scratch(size_t first_live, size_t second_live);
 
 /* How many pairs there are, or `most` where there are more. The answer is the number and that count. */
 void simmerquilt_join_count(const uint8_t *first, size_t first_length,

@@ -1,6 +1,6 @@
 /* Calls the library as a C program does: words with known keys by both editions, every refusal, guard bytes around the buffers, the
- * listing of which rule spoke, and station key books of both editions that are started, added to, read and joined with another. It
- * writes nothing where all is as it should be. */
+ * listing of which rule spoke, and station key books of both formats and editions that are started, added to, closed, read and joined with
+ * another. It writes nothing where all is as it should be. */
 #include "simmerquilt.h"
 
 #include <stdio.h>
@@ -206,12 +206,17 @@ static void explanations(void) {
     explained(0, "KXZ", 3, -1, ROWS_ROOM, SIMMERQUILT_UNKNOWN, 0, rows, 0);
 }
 
-/* A new book of two records under limit 4, and where its parts end; and the header of one that was stored under edition 1. */
-#define HEADER "\x01\x02\x05"
+/* A new book of two records under limit 4, and where its parts end; and the same as it was stored under format 1 and edition 1, where a
+ * record has no kind. */
+#define HEADER "\x02\x02\x05"
 #define OLD_HEADER "\x01\x01\x05"
-#define FIRST "\x07\x06jumped\x04JMPT\x04" "AMPT"
-#define SECOND "\xac\x02\x03Saj\x02SJ\x02S "
-enum { HEADER_END = 3, FIRST_END = 21, SECOND_END = 33, BOOK_ROOM = 48 };
+#define OLD_FIRST "\x07\x06jumped\x04JMPT\x04" "AMPT"
+#define OLD_SECOND "\xac\x02\x03Saj\x02SJ\x02S "
+#define LIVE "\x01"
+#define CLOSED "\x00"
+#define FIRST LIVE OLD_FIRST
+#define SECOND LIVE OLD_SECOND
+enum { HEADER_END = 3, OLD_FIRST_END = 21, OLD_SECOND_END = 33, FIRST_END = 22, SECOND_END = 35, BOOK_ROOM = 48 };
 
 static const uint8_t *bytes(const char *text) { return (const uint8_t *)text; }
 
@@ -244,13 +249,18 @@ static void add(uint8_t *room, size_t room_length, uint64_t length, uint64_t sta
     expect(gives(answer, expected, SIMMERQUILT_BOOK_COUNT), "add", name);
 }
 
-static void append(uint8_t *room, size_t room_length, uint32_t edition, uint64_t length, uint32_t floor, uint64_t station,
-                   const char *name, uint64_t number, uint64_t made, uint64_t made_floor) {
+static void append_in(uint8_t *room, size_t room_length, uint32_t format, uint32_t edition, uint64_t length, uint32_t floor,
+                      uint64_t station, const char *name, uint64_t number, uint64_t made, uint64_t made_floor) {
     uint64_t expected[SIMMERQUILT_APPEND_COUNT] = {number, made, made_floor};
     uint64_t answer[SIMMERQUILT_APPEND_COUNT];
-    simmerquilt_book_append(room, room_length, SIMMERQUILT_FORMAT, edition, 5, length, floor, station, bytes(name), strlen(name),
-                            answer);
+    simmerquilt_book_append(room, room_length, format, edition, 5, length, floor, station, bytes(name), strlen(name), answer);
     expect(gives(answer, expected, SIMMERQUILT_APPEND_COUNT), "append", name);
+}
+
+/* To a new book. */
+static void append(uint8_t *room, size_t room_length, uint64_t length, uint32_t floor, uint64_t station, const char *name,
+                   uint64_t number, uint64_t made, uint64_t made_floor) {
+    append_in(room, room_length, SIMMERQUILT_FORMAT, SIMMERQUILT_EDITION, length, floor, station, name, number, made, made_floor);
 }
 
 static void books_started(void) {
@@ -258,9 +268,9 @@ static void books_started(void) {
     start(room, BOOK_ROOM, true, SIMMERQUILT_DEFAULT_LIMIT, SIMMERQUILT_ACCEPTED, HEADER_END);
     expect(room_holds(room, HEADER, HEADER_END), "room", "a book at 4");
     start(room, BOOK_ROOM, false, 9, SIMMERQUILT_ACCEPTED, HEADER_END);
-    expect(room_holds(room, "\x01\x02\x00", HEADER_END), "room", "a book without a limit");
+    expect(room_holds(room, "\x02\x02\x00", HEADER_END), "room", "a book without a limit");
     start(room, SIMMERQUILT_HEADER_ROOM, true, SIMMERQUILT_NUMBER_END - 2, SIMMERQUILT_ACCEPTED, SIMMERQUILT_HEADER_ROOM);
-    expect(room_holds(room, "\x01\x02\xff\xff\xff\x7f", SIMMERQUILT_HEADER_ROOM), "room", "a book at the largest limit");
+    expect(room_holds(room, "\x02\x02\xff\xff\xff\x7f", SIMMERQUILT_HEADER_ROOM), "room", "a book at the largest limit");
     start(room, 0, true, SIMMERQUILT_NUMBER_END - 1, SIMMERQUILT_BAD_NUMBER, 0);
     start(room, BOOK_ROOM, true, UINT64_MAX, SIMMERQUILT_BAD_NUMBER, 0);
     start(room, HEADER_END - 1, true, 4, SIMMERQUILT_ROOM_SHORT, 0);
@@ -286,14 +296,19 @@ static void books_added_to(void) {
     expect(room_holds(room, HEADER FIRST SECOND, SECOND_END), "room", "two records added");
 
     start(room, BOOK_ROOM, true, 4, SIMMERQUILT_ACCEPTED, HEADER_END);
-    append(room, BOOK_ROOM, SIMMERQUILT_EDITION, HEADER_END, 0, 7, "jumped", SIMMERQUILT_ACCEPTED, FIRST_END, 8);
-    append(room, 0, 0, FIRST_END, 8, 7, longest, SIMMERQUILT_UNKNOWN, 0, 0);
-    append(room, 0, 3, FIRST_END, 8, 7, longest, SIMMERQUILT_UNKNOWN, 0, 0);
-    append(room, FIRST_END - 1, SIMMERQUILT_EDITION, FIRST_END, 8, 7, longest, SIMMERQUILT_CUT_SHORT, 0, 0);
-    append(room, FIRST_END, SIMMERQUILT_EDITION, FIRST_END, 8, 7, "Saj", SIMMERQUILT_NOT_RISING, 0, 0);
-    append(room, SECOND_END - 1, SIMMERQUILT_EDITION, FIRST_END, 8, 300, "Saj", SIMMERQUILT_ROOM_SHORT, 0, 0);
+    append(room, BOOK_ROOM, HEADER_END, 0, 7, "jumped", SIMMERQUILT_ACCEPTED, FIRST_END, 8);
+    append_in(room, 0, 0, 2, FIRST_END, 8, 7, longest, SIMMERQUILT_UNKNOWN, 0, 0);
+    append_in(room, 0, 3, 2, FIRST_END, 8, 7, longest, SIMMERQUILT_UNKNOWN, 0, 0);
+    append_in(room, 0, 2, 0, FIRST_END, 8, 7, longest, SIMMERQUILT_UNKNOWN, 0, 0);
+    append_in(room, 0, 2, 3, FIRST_END, 8, 7, longest, SIMMERQUILT_UNKNOWN, 0, 0);
+    append(room, FIRST_END - 1, FIRST_END, 8, 7, longest, SIMMERQUILT_CUT_SHORT, 0, 0);
+    append(room, SECOND_END, FIRST_END, 8, 7, "Saj", SIMMERQUILT_NOT_RISING, 0, 0);
+    append(room, SECOND_END - 1, FIRST_END, 8, 300, "Saj", SIMMERQUILT_ROOM_SHORT, 0, 0);
+    /* Where the record does not fit, the order is for adding to judge; in format 1 it comes before the room. */
+    append(room, FIRST_END, FIRST_END, 8, 7, "Saj", SIMMERQUILT_ROOM_SHORT, 0, 0);
+    append_in(room, FIRST_END, 1, 2, FIRST_END, 8, 7, "Saj", SIMMERQUILT_NOT_RISING, 0, 0);
     expect(room_holds(room, HEADER FIRST, FIRST_END), "room", "one record appended");
-    append(room, SECOND_END, SIMMERQUILT_EDITION, FIRST_END, 8, 300, "Saj", SIMMERQUILT_ACCEPTED, SECOND_END, 301);
+    append(room, SECOND_END, FIRST_END, 8, 300, "Saj", SIMMERQUILT_ACCEPTED, SECOND_END, 301);
     expect(room_holds(room, HEADER FIRST SECOND, SECOND_END), "room", "two records appended");
 }
 
@@ -302,81 +317,193 @@ static void books_added_to(void) {
 enum { VAN_CHI_END = HEADER_END + 1 + 8 + 4 + 4 };
 
 /* Adds it to a book without records in both ways. */
-static void van_chi(const char *header, uint32_t edition, const char *book) {
+static void van_chi(uint32_t format, uint32_t edition, const char *book, size_t end) {
     uint8_t room[BOOK_ROOM];
     memset(room, HELD, BOOK_ROOM);
-    memcpy(room, header, HEADER_END);
-    add(room, BOOK_ROOM, HEADER_END, 10, "Van Chi", SIMMERQUILT_ACCEPTED, VAN_CHI_END);
-    expect(room_holds(room, book, VAN_CHI_END), "added", book);
+    memcpy(room, book, HEADER_END);
+    add(room, BOOK_ROOM, HEADER_END, 10, "Van Chi", SIMMERQUILT_ACCEPTED, end);
+    expect(room_holds(room, book, end), "added", book);
     memset(room + HEADER_END, HELD, BOOK_ROOM - HEADER_END);
-    append(room, BOOK_ROOM, edition, HEADER_END, 0, 10, "Van Chi", SIMMERQUILT_ACCEPTED, VAN_CHI_END, 11);
-    expect(room_holds(room, book, VAN_CHI_END), "appended", book);
+    append_in(room, BOOK_ROOM, format, edition, HEADER_END, 0, 10, "Van Chi", SIMMERQUILT_ACCEPTED, end, 11);
+    expect(room_holds(room, book, end), "appended", book);
 }
 
 static void books_of_editions(void) {
     uint8_t room[BOOK_ROOM];
     start(room, BOOK_ROOM, true, 4, SIMMERQUILT_ACCEPTED, HEADER_END);
+    expect(room[0] == SIMMERQUILT_FORMAT && SIMMERQUILT_FORMAT == 2, "format", "a new book");
     expect(room[1] == SIMMERQUILT_EDITION && SIMMERQUILT_EDITION == 2, "edition", "a new book");
-    van_chi(HEADER, 2, HEADER VAN_CHI "FNK\x03" "FNK");
-    van_chi(OLD_HEADER, 1, OLD_HEADER VAN_CHI "FNX\x03" "FNK");
+    van_chi(2, 2, HEADER LIVE VAN_CHI "FNK\x03" "FNK", VAN_CHI_END + 1);
+    van_chi(2, 1, "\x02\x01\x05" LIVE VAN_CHI "FNX\x03" "FNK", VAN_CHI_END + 1);
+    van_chi(1, 2, "\x01\x02\x05" VAN_CHI "FNK\x03" "FNK", VAN_CHI_END);
+    van_chi(1, 1, OLD_HEADER VAN_CHI "FNX\x03" "FNK", VAN_CHI_END);
 }
 
-static void whole_in(uint64_t edition, const char *book, size_t length, uint64_t number, uint64_t records, uint64_t floor) {
-    bool good = number == SIMMERQUILT_ACCEPTED;
-    uint64_t expected[SIMMERQUILT_READ_COUNT] = {number, good, good ? edition : 0, good ? 5 : 0, records, floor};
+/* Reads a good book of this header. */
+static void whole(uint64_t format, uint64_t edition, const char *book, size_t length, uint64_t records, uint64_t floor,
+                  uint64_t live) {
+    uint64_t expected[SIMMERQUILT_READ_COUNT] = {SIMMERQUILT_ACCEPTED, format, edition, 5, records, floor, live};
     uint64_t answer[SIMMERQUILT_READ_COUNT];
     simmerquilt_book_read(bytes(book), length, answer);
     expect(gives(answer, expected, SIMMERQUILT_READ_COUNT), "read", book);
 }
 
-static void whole(const char *book, size_t length, uint64_t number, uint64_t records, uint64_t floor) {
-    whole_in(SIMMERQUILT_EDITION, book, length, number, records, floor);
+static void faulty(const char *book, size_t length, uint64_t number) {
+    uint64_t expected[SIMMERQUILT_READ_COUNT] = {number};
+    uint64_t answer[SIMMERQUILT_READ_COUNT];
+    simmerquilt_book_read(bytes(book), length, answer);
+    expect(gives(answer, expected, SIMMERQUILT_READ_COUNT), "fault", book);
 }
 
-static void opened(uint64_t edition, const char *book, size_t length, uint64_t number) {
+static void opened(const char *book, size_t length, uint64_t number, uint64_t format, uint64_t edition) {
     bool good = number == SIMMERQUILT_ACCEPTED;
-    uint64_t expected[SIMMERQUILT_OPEN_COUNT] = {number, good, good ? edition : 0, good ? 5 : 0, good ? HEADER_END : 0, 0};
+    uint64_t expected[SIMMERQUILT_OPEN_COUNT] = {number, format, edition, good ? 5 : 0, good ? HEADER_END : 0, 0};
     uint64_t answer[SIMMERQUILT_OPEN_COUNT];
     simmerquilt_book_open(bytes(book), length, answer);
     expect(gives(answer, expected, SIMMERQUILT_OPEN_COUNT), "open", book);
 }
 
-static void next(size_t length, uint64_t place, uint32_t floor, const uint64_t expected[SIMMERQUILT_NEXT_COUNT]) {
+static void next_in(uint32_t format, uint32_t edition, const char *book, size_t length, uint64_t place, uint32_t floor,
+                    const uint64_t expected[SIMMERQUILT_NEXT_COUNT]) {
     uint64_t answer[SIMMERQUILT_NEXT_COUNT];
-    simmerquilt_book_next(bytes(HEADER FIRST SECOND), length, place, floor, answer);
+    simmerquilt_book_next(bytes(book), length, format, edition, place, floor, answer);
     expect(gives(answer, expected, SIMMERQUILT_NEXT_COUNT), "next", "two records");
 }
 
+static void next(size_t length, uint64_t place, uint32_t floor, const uint64_t expected[SIMMERQUILT_NEXT_COUNT]) {
+    next_in(2, 2, HEADER FIRST SECOND, length, place, floor, expected);
+}
+
 static void books_read(void) {
-    static const uint64_t first[SIMMERQUILT_NEXT_COUNT] = {0, 1, 7, 5, 6, 12, 4, 17, 4, FIRST_END, 8};
-    static const uint64_t second[SIMMERQUILT_NEXT_COUNT] = {0, 1, 300, 24, 3, 28, 2, 31, 2, SECOND_END, 301};
+    whole(2, 2, HEADER FIRST SECOND, SECOND_END, 2, 301, 2);
+    whole(2, 2, HEADER, HEADER_END, 0, 0, 0);
+    whole(2, 1, "\x02\x01\x05" FIRST, FIRST_END, 1, 8, 1);
+    whole(2, 2, HEADER CLOSED OLD_FIRST SECOND, SECOND_END, 2, 301, 1);
+    whole(2, 2, HEADER CLOSED OLD_FIRST CLOSED OLD_SECOND, SECOND_END, 2, 301, 0);
+    whole(1, 1, OLD_HEADER OLD_FIRST OLD_SECOND, OLD_SECOND_END, 2, 301, 2);
+    faulty(HEADER FIRST SECOND, SECOND_END - 1, SIMMERQUILT_CUT_SHORT);
+    faulty(HEADER FIRST FIRST, 2 * FIRST_END - HEADER_END, SIMMERQUILT_NOT_RISING);
+    faulty(HEADER CLOSED OLD_FIRST FIRST, 2 * FIRST_END - HEADER_END, SIMMERQUILT_NOT_RISING);
+    faulty(HEADER "\x01\x07\x81\x08", 7, SIMMERQUILT_TOO_LONG);
+    faulty(HEADER "\x00\x07\x09\x80", 7, SIMMERQUILT_NOT_ASCII);
+    faulty(HEADER "\x02\x07", 5, SIMMERQUILT_UNKNOWN);
+    faulty(HEADER "\x81\x00", 5, SIMMERQUILT_BAD_NUMBER);
+    faulty(HEADER FIRST "\x02", FIRST_END + 1, SIMMERQUILT_UNKNOWN);
+    faulty(OLD_HEADER "\x07\x81\x08", 6, SIMMERQUILT_TOO_LONG);
+    faulty("\x01\x03\x05", HEADER_END, SIMMERQUILT_UNKNOWN);
+    faulty("\x03\x02\x05", HEADER_END, SIMMERQUILT_UNKNOWN);
+
+    opened(HEADER FIRST, FIRST_END, SIMMERQUILT_ACCEPTED, 2, 2);
+    opened(OLD_HEADER OLD_FIRST, OLD_FIRST_END, SIMMERQUILT_ACCEPTED, 1, 1);
+    opened("\x01\x02\x05", HEADER_END, SIMMERQUILT_ACCEPTED, 1, 2);
+    opened("\x00", 1, SIMMERQUILT_UNKNOWN, 0, 0);
+    opened("\x03", 1, SIMMERQUILT_UNKNOWN, 0, 0);
+    opened("\x02\x00", 2, SIMMERQUILT_UNKNOWN, 0, 0);
+    opened("\x02\x03", 2, SIMMERQUILT_UNKNOWN, 0, 0);
+    opened("\x02\x81\x00", 3, SIMMERQUILT_BAD_NUMBER, 0, 0);
+    opened("\x02\x02", 2, SIMMERQUILT_CUT_SHORT, 0, 0);
+}
+
+static void books_walked(void) {
+    static const uint64_t first[SIMMERQUILT_NEXT_COUNT] = {0, 1, 7, 6, 6, 13, 4, 18, 4, FIRST_END, 8, SIMMERQUILT_LIVE};
+    static const uint64_t second[SIMMERQUILT_NEXT_COUNT] = {0, 1, 300, 26, 3, 30, 2, 33, 2, SECOND_END, 301, SIMMERQUILT_LIVE};
+    static const uint64_t closed[SIMMERQUILT_NEXT_COUNT] = {0, 1, 7, 6, 6, 13, 4, 18, 4, FIRST_END, 8, SIMMERQUILT_CLOSED};
+    static const uint64_t old[SIMMERQUILT_NEXT_COUNT] = {0, 1, 7, 5, 6, 12, 4, 17, 4, OLD_FIRST_END, 8, SIMMERQUILT_LIVE};
     static const uint64_t end[SIMMERQUILT_NEXT_COUNT] = {0};
     static const uint64_t cut_short[SIMMERQUILT_NEXT_COUNT] = {SIMMERQUILT_CUT_SHORT};
     static const uint64_t not_rising[SIMMERQUILT_NEXT_COUNT] = {SIMMERQUILT_NOT_RISING};
-    whole(HEADER FIRST SECOND, SECOND_END, SIMMERQUILT_ACCEPTED, 2, 301);
-    whole(HEADER, HEADER_END, SIMMERQUILT_ACCEPTED, 0, 0);
-    whole(HEADER FIRST SECOND, SECOND_END - 1, SIMMERQUILT_CUT_SHORT, 0, 0);
-    whole(HEADER FIRST FIRST, 2 * FIRST_END - HEADER_END, SIMMERQUILT_NOT_RISING, 0, 0);
-    whole(HEADER "\x07\x81\x08", 6, SIMMERQUILT_TOO_LONG, 0, 0);
-    whole(HEADER "\x07\x09\x80", 6, SIMMERQUILT_NOT_ASCII, 0, 0);
-
-    whole_in(1, OLD_HEADER FIRST SECOND, SECOND_END, SIMMERQUILT_ACCEPTED, 2, 301);
-    whole("\x01\x03\x05", HEADER_END, SIMMERQUILT_UNKNOWN, 0, 0);
-
-    opened(2, HEADER FIRST, FIRST_END, SIMMERQUILT_ACCEPTED);
-    opened(1, OLD_HEADER FIRST, FIRST_END, SIMMERQUILT_ACCEPTED);
-    opened(2, "\x02", 1, SIMMERQUILT_UNKNOWN);
-    opened(2, "\x01\x00", 2, SIMMERQUILT_UNKNOWN);
-    opened(2, "\x01\x03", 2, SIMMERQUILT_UNKNOWN);
-    opened(2, "\x01\x81\x00", 3, SIMMERQUILT_BAD_NUMBER);
-    opened(2, "\x01\x02", 2, SIMMERQUILT_CUT_SHORT);
-
+    static const uint64_t unknown[SIMMERQUILT_NEXT_COUNT] = {SIMMERQUILT_UNKNOWN};
+    static const uint64_t places[] = {HEADER_END, FIRST_END, SECOND_END, SECOND_END + 1, UINT64_MAX};
+    size_t at;
     next(SECOND_END, HEADER_END, 0, first);
     next(SECOND_END, FIRST_END, 8, second);
     next(SECOND_END, SECOND_END, 301, end);
     next(SECOND_END, UINT64_MAX, 0, end);
     next(SECOND_END - 1, FIRST_END, 8, cut_short);
     next(SECOND_END, FIRST_END, 301, not_rising);
+    next_in(2, 2, HEADER CLOSED OLD_FIRST SECOND, SECOND_END, HEADER_END, 0, closed);
+    next_in(2, 2, HEADER CLOSED OLD_FIRST SECOND, SECOND_END, FIRST_END, 8, second);
+    next_in(2, 2, HEADER "\x02", 4, HEADER_END, 0, unknown);
+    next_in(1, 1, OLD_HEADER OLD_FIRST, OLD_FIRST_END, HEADER_END, 0, old);
+    /* A format or an edition that is not known, at every record, at the end and past it. */
+    for (at = 0; at < sizeof places / sizeof *places; at++) {
+        next_in(0, 2, HEADER FIRST SECOND, SECOND_END, places[at], 0, unknown);
+        next_in(3, 2, HEADER FIRST SECOND, SECOND_END, places[at], 0, unknown);
+        next_in(2, 0, HEADER FIRST SECOND, SECOND_END, places[at], 0, unknown);
+        next_in(1, 3, HEADER FIRST SECOND, SECOND_END, places[at], 0, unknown);
+    }
+}
+
+static void close_station(uint8_t *room, size_t room_length, uint64_t length, uint64_t station, uint64_t number) {
+    uint64_t expected[SIMMERQUILT_BOOK_COUNT] = {number, number == SIMMERQUILT_ACCEPTED ? length : 0};
+    uint64_t answer[SIMMERQUILT_BOOK_COUNT];
+    simmerquilt_book_close(room, room_length, length, station, answer);
+    expect(gives(answer, expected, SIMMERQUILT_BOOK_COUNT), "close", "a station");
+}
+
+/* A book in a room with held bytes behind it. */
+static void lend(uint8_t *room, const char *book, size_t length) {
+    memset(room, HELD, BOOK_ROOM);
+    memcpy(room, book, length);
+}
+
+static void books_closed(void) {
+    uint8_t room[BOOK_ROOM];
+    lend(room, HEADER FIRST SECOND, SECOND_END);
+    close_station(room, BOOK_ROOM, SECOND_END - 1, 7, SIMMERQUILT_CUT_SHORT);
+    close_station(room, SECOND_END, SECOND_END + 1, 7, SIMMERQUILT_CUT_SHORT);
+    close_station(room, SECOND_END, UINT64_MAX, 8, SIMMERQUILT_CUT_SHORT);
+    close_station(room, BOOK_ROOM, SECOND_END, 8, SIMMERQUILT_NOT_LIVE);
+    close_station(room, BOOK_ROOM, SECOND_END, SIMMERQUILT_NUMBER_END + 7, SIMMERQUILT_NOT_LIVE);
+    close_station(room, BOOK_ROOM, SECOND_END, UINT64_C(0x100000007), SIMMERQUILT_NOT_LIVE);
+    close_station(room, BOOK_ROOM, SECOND_END, UINT64_MAX, SIMMERQUILT_NOT_LIVE);
+    expect(room_holds(room, HEADER FIRST SECOND, SECOND_END), "room under a refusal", "close");
+    close_station(room, BOOK_ROOM, SECOND_END, 7, SIMMERQUILT_ACCEPTED);
+    expect(room_holds(room, HEADER CLOSED OLD_FIRST SECOND, SECOND_END), "room", "one closed");
+    close_station(room, BOOK_ROOM, SECOND_END, 7, SIMMERQUILT_NOT_LIVE);
+    close_station(room, SECOND_END, SECOND_END, 300, SIMMERQUILT_ACCEPTED);
+    expect(room_holds(room, HEADER CLOSED OLD_FIRST CLOSED OLD_SECOND, SECOND_END), "room", "both closed");
+    close_station(room, BOOK_ROOM, SECOND_END, 300, SIMMERQUILT_NOT_LIVE);
+
+    /* Format 1 is met at its number, before what is behind it. */
+    lend(room, OLD_HEADER OLD_FIRST, OLD_FIRST_END);
+    close_station(room, BOOK_ROOM, OLD_FIRST_END, 7, SIMMERQUILT_UNKNOWN);
+    close_station(room, BOOK_ROOM, OLD_FIRST_END - 1, 7, SIMMERQUILT_UNKNOWN);
+    close_station(room, BOOK_ROOM, 1, 7, SIMMERQUILT_UNKNOWN);
+    close_station(room, OLD_FIRST_END, UINT64_MAX, 8, SIMMERQUILT_UNKNOWN);
+    close_station(room, BOOK_ROOM, 0, 7, SIMMERQUILT_CUT_SHORT);
+    expect(room_holds(room, OLD_HEADER OLD_FIRST, OLD_FIRST_END), "room under a refusal", "close in format 1");
+}
+
+/* Records of 12 and 17 bytes that the room of closed ones is used for. */
+#define SAJ LIVE "\x08\x03Saj\x02SJ\x02S "
+#define WESER LIVE "\xad\x02\x05Weser\x03" "ASR\x03" "FSR"
+enum { SAJ_LENGTH = 12, WESER_LENGTH = 17, SECOND_LENGTH = SECOND_END - FIRST_END };
+
+static void books_closed_up(void) {
+    static const char *const last_closed = HEADER FIRST CLOSED OLD_SECOND;
+    uint8_t room[BOOK_ROOM];
+    /* As the book stands there is room, and closed records count; with one byte less only live ones do. */
+    lend(room, last_closed, SECOND_END);
+    add(room, SECOND_END + SAJ_LENGTH, SECOND_END, 8, "Saj", SIMMERQUILT_NOT_RISING, 0);
+    append(room, SECOND_END + SAJ_LENGTH, SECOND_END, 301, 8, "Saj", SIMMERQUILT_NOT_RISING, 0, 0);
+    append(room, SECOND_END + SAJ_LENGTH - 1, SECOND_END, 301, 8, "Saj", SIMMERQUILT_ROOM_SHORT, 0, 0);
+    add(room, SECOND_END + SAJ_LENGTH - 1, SECOND_END, 7, "Saj", SIMMERQUILT_NOT_RISING, 0);
+    add(room, SECOND_END, SECOND_END, 301, "Weser", SIMMERQUILT_ROOM_SHORT, 0);
+    expect(room_holds(room, last_closed, SECOND_END), "room under a refusal", "closing up");
+    add(room, SECOND_END + SAJ_LENGTH - 1, SECOND_END, 8, "Saj", SIMMERQUILT_ACCEPTED, FIRST_END + SAJ_LENGTH);
+    /* The byte behind the new end was the old book's last. */
+    expect(room_holds(room, HEADER FIRST SAJ " ", SECOND_END), "room", "closed up at its end");
+
+    /* A live record moves to the front. */
+    lend(room, HEADER CLOSED OLD_FIRST SECOND, SECOND_END);
+    add(room, SECOND_END, SECOND_END, 301, "Weser", SIMMERQUILT_ACCEPTED, HEADER_END + SECOND_LENGTH + WESER_LENGTH);
+    expect(room_holds(room, HEADER SECOND WESER "S ", SECOND_END), "room", "closed up at its front");
+
+    /* As it stands, the book keeps its closed records. */
+    lend(room, HEADER CLOSED OLD_FIRST, FIRST_END);
+    add(room, BOOK_ROOM, FIRST_END, 8, "Saj", SIMMERQUILT_ACCEPTED, FIRST_END + SAJ_LENGTH);
+    expect(room_holds(room, HEADER CLOSED OLD_FIRST SAJ, FIRST_END + SAJ_LENGTH), "room", "not closed up");
 }
 
 static void no_book_lent(void) {
@@ -388,7 +515,7 @@ static void no_book_lent(void) {
     expect(gives(answer, room_short, SIMMERQUILT_BOOK_COUNT), "no room", "start");
     simmerquilt_book_open(NULL, 0, answer);
     expect(gives(answer, cut_short, SIMMERQUILT_OPEN_COUNT), "no book", "open");
-    simmerquilt_book_next(NULL, 0, 0, 0, answer);
+    simmerquilt_book_next(NULL, 0, 2, 2, 0, 0, answer);
     expect(gives(answer, end, SIMMERQUILT_NEXT_COUNT), "no book", "next");
     simmerquilt_book_read(NULL, 0, answer);
     expect(gives(answer, cut_short, SIMMERQUILT_READ_COUNT), "no book", "read");
@@ -396,11 +523,15 @@ static void no_book_lent(void) {
     expect(gives(answer, cut_short, SIMMERQUILT_BOOK_COUNT), "no room", "add");
     simmerquilt_book_append(NULL, 0, 1, 1, 0, 0, 0, 0, NULL, 0, answer);
     expect(gives(answer, room_short, SIMMERQUILT_APPEND_COUNT), "no room", "append");
+    simmerquilt_book_append(NULL, 0, 2, 2, 0, 0, 0, 0, NULL, 0, answer);
+    expect(gives(answer, room_short, SIMMERQUILT_APPEND_COUNT), "no room", "append in format 2");
+    simmerquilt_book_close(NULL, 0, 0, 0, answer);
+    expect(gives(answer, cut_short, SIMMERQUILT_BOOK_COUNT), "no room", "close");
 }
 
 /* A book of two records under limit 6, to be joined with the one above: 7 meets 9. */
-#define OTHER "\x01\x02\x07" "\x05\x05Weser\x03" "ASR\x03" "FSR" "\x09\x07Jumpton\x05JMPTN\x05" "AMPTN"
-enum { OTHER_END = 39, SCRATCH = 3 * 2 + 8 * 2 + 1, PAIRS = 2 };
+#define OTHER "\x02\x02\x07" LIVE "\x05\x05Weser\x03" "ASR\x03" "FSR" LIVE "\x09\x07Jumpton\x05JMPTN\x05" "AMPTN"
+enum { OTHER_END = 41, SCRATCH = 3 * 2 + 8 * 2 + 1, PAIRS = 2 };
 
 /* What is lent to a join, with words and numbers behind what it needs. */
 struct joined {
@@ -465,14 +596,14 @@ static void books_joined(void) {
     count(OTHER, OTHER_END, SCRATCH, UINT64_MAX, SIMMERQUILT_ACCEPTED, 1, "two books");
     count(OTHER, OTHER_END, SCRATCH, 0, SIMMERQUILT_ACCEPTED, 0, "at most none");
     count(OTHER, OTHER_END, SCRATCH - 1, UINT64_MAX, SIMMERQUILT_ROOM_SHORT, 0, "scratch too short");
-    count("\x01\x03", 2, SCRATCH, UINT64_MAX, SIMMERQUILT_UNKNOWN, 0, "no such edition");
-    count(OLD_HEADER FIRST, FIRST_END, SCRATCH, UINT64_MAX, SIMMERQUILT_EDITIONS_DIFFER, 0, "another edition");
-    count(OLD_HEADER FIRST, FIRST_END, 0, UINT64_MAX, SIMMERQUILT_EDITIONS_DIFFER, 0, "another edition and no scratch");
-    count(OLD_HEADER FIRST, FIRST_END - 1, 0, UINT64_MAX, SIMMERQUILT_CUT_SHORT, 0, "another edition, cut short");
+    count("\x02\x03", 2, SCRATCH, UINT64_MAX, SIMMERQUILT_UNKNOWN, 0, "no such edition");
+    count(OLD_HEADER OLD_FIRST, OLD_FIRST_END, SCRATCH, UINT64_MAX, SIMMERQUILT_EDITIONS_DIFFER, 0, "another edition");
+    count(OLD_HEADER OLD_FIRST, OLD_FIRST_END, 0, UINT64_MAX, SIMMERQUILT_EDITIONS_DIFFER, 0, "another edition and no scratch");
+    count(OLD_HEADER OLD_FIRST, OLD_FIRST_END - 1, 0, UINT64_MAX, SIMMERQUILT_CUT_SHORT, 0, "another edition, cut short");
     count(HEADER FIRST SECOND, SECOND_END, SCRATCH, UINT64_MAX, SIMMERQUILT_ACCEPTED, 2, "a book with itself");
 }
 
-/* Joins two books of the same records. */
+/* Joins two books of the same records, of which each has this header. */
 static void join_of(const char *first, const char *second, size_t scratch, uint64_t number, const char *what) {
     static const uint32_t pairs[] = {7, 7, 300, 300};
     bool accepted = number == SIMMERQUILT_ACCEPTED;
@@ -480,21 +611,50 @@ static void join_of(const char *first, const char *second, size_t scratch, uint6
     uint64_t answer[SIMMERQUILT_JOIN_COUNT];
     struct joined lent;
     hold(&lent);
-    simmerquilt_join(bytes(first), SECOND_END, bytes(second), SECOND_END, false, lent.scratch, scratch, lent.pairs, PAIRS + 3,
-                     answer);
+    simmerquilt_join(bytes(first), first[0] == 1 ? OLD_SECOND_END : SECOND_END, bytes(second),
+                     second[0] == 1 ? OLD_SECOND_END : SECOND_END, false, lent.scratch, scratch, lent.pairs, PAIRS + 3, answer);
     expect(gives(answer, expected, SIMMERQUILT_JOIN_COUNT), "join", what);
     expect(left(&lent, accepted, pairs, accepted ? 2 : 0), "scratch and pairs", what);
 }
 
-/* Different editions are refused before the scratch is looked at. */
+/* Different editions are refused before the scratch is looked at; different formats are joined. */
 static void books_of_editions_joined(void) {
-    static const char *const old = OLD_HEADER FIRST SECOND, *const new = HEADER FIRST SECOND;
+    static const char *const old = OLD_HEADER OLD_FIRST OLD_SECOND, *const new = HEADER FIRST SECOND;
+    static const char *const old_format = "\x01\x02\x05" OLD_FIRST OLD_SECOND, *const old_edition = "\x02\x01\x05" FIRST SECOND;
     join_of(new, new, SCRATCH, SIMMERQUILT_ACCEPTED, "two new books");
     join_of(old, old, SCRATCH, SIMMERQUILT_ACCEPTED, "two old books");
     join_of(old, old, 0, SIMMERQUILT_ROOM_SHORT, "two old books and no scratch");
     join_of(old, new, SCRATCH, SIMMERQUILT_EDITIONS_DIFFER, "an old and a new book");
     join_of(new, old, SCRATCH, SIMMERQUILT_EDITIONS_DIFFER, "a new and an old book");
     join_of(new, old, 0, SIMMERQUILT_EDITIONS_DIFFER, "a new and an old book and no scratch");
+    join_of(new, old_format, SCRATCH, SIMMERQUILT_ACCEPTED, "a new book and one of format 1");
+    join_of(old_format, new, SCRATCH, SIMMERQUILT_ACCEPTED, "a book of format 1 and a new one");
+    join_of(old_edition, old, SCRATCH, SIMMERQUILT_ACCEPTED, "two formats of edition 1");
+    join_of(old_edition, new, SCRATCH, SIMMERQUILT_EDITIONS_DIFFER, "two editions of format 2");
+}
+
+/* Joins two books of which one has its first record closed: 300 meets itself, and the scratch goes by live records. */
+static void closed_join(const char *first, const char *second, size_t scratch, const char *what) {
+    static const uint64_t one[SIMMERQUILT_JOIN_COUNT] = {SIMMERQUILT_ACCEPTED, 1};
+    static const uint64_t room_short[SIMMERQUILT_JOIN_COUNT] = {SIMMERQUILT_ROOM_SHORT};
+    uint64_t answer[SIMMERQUILT_JOIN_COUNT];
+    struct joined lent;
+    simmerquilt_join(bytes(first), SECOND_END, bytes(second), SECOND_END, false, lent.scratch, scratch, lent.pairs, PAIRS, answer);
+    expect(gives(answer, one, SIMMERQUILT_JOIN_COUNT) && lent.pairs[0] == 300 && lent.pairs[1] == 300, "join", what);
+    simmerquilt_join_count(bytes(first), SECOND_END, bytes(second), SECOND_END, false, lent.scratch, scratch - 1, 9, answer);
+    expect(gives(answer, room_short, SIMMERQUILT_JOIN_COUNT), "scratch too short", what);
+}
+
+static void closed_books_joined(void) {
+    static const char *const open = HEADER FIRST SECOND, *const closed = HEADER CLOSED OLD_FIRST SECOND;
+    static const uint64_t none[SIMMERQUILT_JOIN_COUNT] = {0};
+    uint64_t answer[SIMMERQUILT_JOIN_COUNT];
+    size_t word = HELD;
+    closed_join(closed, open, 3 * 1 + 8 * 2 + 1, "closed in the first");
+    closed_join(open, closed, 3 * 2 + 8 * 1 + 1, "closed in the second");
+    closed_join(closed, closed, 3 * 1 + 8 * 1 + 1, "closed in both");
+    simmerquilt_join_count(bytes(closed), FIRST_END, bytes(closed), FIRST_END, false, &word, 1, 9, answer);
+    expect(gives(answer, none, SIMMERQUILT_JOIN_COUNT) && word == 0, "count", "none live");
 }
 
 static void no_join_lent(void) {
@@ -522,9 +682,13 @@ int main(void) {
     books_added_to();
     books_of_editions();
     books_read();
+    books_walked();
+    books_closed();
+    books_closed_up();
     no_book_lent();
     books_joined();
     books_of_editions_joined();
+    closed_books_joined();
     no_join_lent();
     return failures != 0;
 }

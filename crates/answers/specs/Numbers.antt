@@ -52,16 +52,16 @@ abbrev pub openedNumbers : Opened → List ℕ
 openedNumbers (opened.Book h c) = 0 ∷ h .format ∷ h .edition ∷ h .cut ∷ c .at ∷ c .floor ∷ []
 openedNumbers (opened.Fault f) = f ∷ 0 ∷ 0 ∷ 0 ∷ 0 ∷ 0 ∷ []
 
--- number, 1 for a record, station, name, primary, alternate, and the next cursor
+-- number, 1 for a record, station, name, primary, alternate, the next cursor, and the kind
 abbrev pub stepNumbers : Step → List ℕ
-stepNumbers (step.Record v n p a c) = 0 ∷ 1 ∷ v ∷ n .start ∷ n .len ∷ p .start ∷ p .len ∷ a .start ∷ a .len ∷ c .at ∷ c .floor ∷ []
-stepNumbers step.End = 0 ∷ 0 ∷ 0 ∷ 0 ∷ 0 ∷ 0 ∷ 0 ∷ 0 ∷ 0 ∷ 0 ∷ 0 ∷ []
-stepNumbers (step.Fault f) = f ∷ 0 ∷ 0 ∷ 0 ∷ 0 ∷ 0 ∷ 0 ∷ 0 ∷ 0 ∷ 0 ∷ 0 ∷ []
+stepNumbers (step.Record v n p a c k) = 0 ∷ 1 ∷ v ∷ n .start ∷ n .len ∷ p .start ∷ p .len ∷ a .start ∷ a .len ∷ c .at ∷ c .floor ∷ k ∷ []
+stepNumbers step.End = 0 ∷ 0 ∷ 0 ∷ 0 ∷ 0 ∷ 0 ∷ 0 ∷ 0 ∷ 0 ∷ 0 ∷ 0 ∷ 0 ∷ []
+stepNumbers (step.Fault f) = f ∷ 0 ∷ 0 ∷ 0 ∷ 0 ∷ 0 ∷ 0 ∷ 0 ∷ 0 ∷ 0 ∷ 0 ∷ 0 ∷ []
 
--- number, format, edition, cut, records, and the least station of a further record
+-- number, format, edition, cut, records, the least station of a further record, and how many records are live
 abbrev pub wholeNumbers : Whole → List ℕ
-wholeNumbers (whole.Book h n floor) = 0 ∷ h .format ∷ h .edition ∷ h .cut ∷ n ∷ floor ∷ []
-wholeNumbers (whole.Fault f) = f ∷ 0 ∷ 0 ∷ 0 ∷ 0 ∷ 0 ∷ []
+wholeNumbers (whole.Book h at m) = 0 ∷ h .format ∷ h .edition ∷ h .cut ∷ m .count ∷ m .floor ∷ m .live ∷ []
+wholeNumbers (whole.Fault f) = f ∷ 0 ∷ 0 ∷ 0 ∷ 0 ∷ 0 ∷ 0 ∷ []
 
 -- number, length, and the least station of a further record
 abbrev pub endedNumbers : Ended → List ℕ

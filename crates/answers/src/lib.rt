@@ -117,8 +117,8 @@ pub fn tell_opened(opened: Opened, out: &mut [u64; 6])
     }
 }
 
-// Number, 1 for a record, station, name, primary, alternate, and the next cursor.
-pub fn tell_step(step: Step, out: &mut [u64; 11])
+// Number, 1 for a record, station, name, primary, alternate, the next cursor, and the kind.
+pub fn tell_step(step: Step, out: &mut [u64; 12])
     ensures { λ _. ⌜ now (out .exit) ≡ stepNumbers step ⌝ }
 {
     match step {
@@ -128,6 +128,7 @@ pub fn tell_step(step: Step, out: &mut [u64; 11])
             primary,
             alternate,
             next,
+            kind,
         } => {
             *out = [
                 0,
@@ -141,38 +142,40 @@ pub fn tell_step(step: Step, out: &mut [u64; 11])
                 alternate.len as u64,
                 next.at as u64,
                 next.floor as u64,
+                kind as u64,
             ];
         }
         Step::End => {
-            *out = [0, 0, 0, 0, 0, 0, 0, 0, 0, 0, 0];
+            *out = [0, 0, 0, 0, 0, 0, 0, 0, 0, 0, 0, 0];
         }
         Step::Fault(f) => {
-            *out = [f as u64, 0, 0, 0, 0, 0, 0, 0, 0, 0, 0];
+            *out = [f as u64, 0, 0, 0, 0, 0, 0, 0, 0, 0, 0, 0];
         }
     }
 }
 
-// Number, format, edition, cut, records, and the least station of a further record.
-pub fn tell_whole(whole: Whole, out: &mut [u64; 6])
+// Number, format, edition, cut, records, the least station of a further record, and how many records are live.
+pub fn tell_whole(whole: Whole, out: &mut [u64; 7])
     ensures { λ _. ⌜ now (out .exit) ≡ wholeNumbers whole ⌝ }
 {
     match whole {
         Whole::Book {
             header,
-            records,
-            floor,
+            first: _,
+            measure,
         } => {
             *out = [
                 0,
                 header.format as u64,
                 header.edition as u64,
                 header.cut as u64,
-                records as u64,
-                floor as u64,
+                measure.count as u64,
+                measure.floor as u64,
+                measure.live as u64,
             ];
         }
         Whole::Fault(f) => {
-            *out = [f as u64, 0, 0, 0, 0, 0];
+            *out = [f as u64, 0, 0, 0, 0, 0, 0];
         }
     }
 }

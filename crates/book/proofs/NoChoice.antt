@@ -3,8 +3,8 @@ use mathlib.Core.Path.{sym, _∙_}
 use Rattle.windows.proofs.Choice.{OneResult}
 use Rattle.book.proofs.open.Kinds as open-kinds
 use Rattle.book.proofs.open.Reads as opens
-use Rattle.book.proofs.known_fault.Kinds as known-fault-kinds
-use Rattle.book.proofs.known_fault.Reads as known-fault
+use Rattle.book.proofs.unknown_fault.Kinds as unknown-fault-kinds
+use Rattle.book.proofs.unknown_fault.Reads as unknown-fault
 use Rattle.book.proofs.record_at.Kinds as record-at-kinds
 use Rattle.book.proofs.record_at.Reads as record-at
 use Rattle.book.proofs.next.Kinds as next-kinds
@@ -17,8 +17,8 @@ use Rattle.book.proofs.read.Reads as read
 pub one-open : OneResult open-kinds.ps open-kinds.r opens.Post
 one-open κs a x y s t p q = p ∙ sym q
 
-pub one-known-fault : OneResult known-fault-kinds.ps known-fault-kinds.r known-fault.Post
-one-known-fault κs a x y s t p q = p ∙ sym q
+pub one-unknown-fault : OneResult unknown-fault-kinds.ps unknown-fault-kinds.r unknown-fault.Post
+one-unknown-fault κs a x y s t p q = p ∙ sym q
 
 pub one-record-at : OneResult record-at-kinds.ps record-at-kinds.r record-at.Post
 one-record-at κs a x y s t p q = p ∙ sym q

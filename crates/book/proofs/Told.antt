@@ -1,4 +1,4 @@
--- From the answers of the field readers to those of the book's.
+-- From the answers of the field readers to a record's. Assumes nothing.
 use Prim.Native.Nat.{ℕ, _+_, _-_, _^_, _≤_, _<_, min}
 use mathlib.Core.Path.{_≡_, refl, sym, ap, _∙_}
 use mathlib.Core.Bool.{Bool, true, false, cond, _||_}
@@ -20,71 +20,20 @@ use Rattle.fields.proofs.Told.{value-told, value-fault, part-told, part-fault, 
 use Rattle.encoder.specs.Trim.{anyHigh, isAscii}
 use Rattle.encoder.specs.Numbers.{wordLimit}
 use Rattle.encoder.specs.Editions.{lastEdition}
-use Rattle.book.specs.declared.Opened.the-variants as opened
 use Rattle.book.specs.declared.Codes.the-variants as codes
 use Rattle.book.specs.declared.Step.the-variants as step
-use Rattle.book.specs.Book.{Record, known, rising, nameLength, nameByte, headerOf, recordOf, Texts, readHeader, readRecord}
-use Rattle.book.specs.Told.{openedBy, codesAt, stepAt}
+use Rattle.book.specs.Book.{known, rising, nameLength, nameByte, recordOf, Texts, readRecord}
+use Rattle.book.specs.Told.{codesAt, bodyAt}
 
 -- ---- judges
-pub known-zero : (most v : ℕ) → v ≡ 0 → known most v ≡ 7
-known-zero most v e = rw e
+pub known-below : (least most v : ℕ) → v < least → known least most v ≡ 7
+known-below least most v h = rw (lt-leb least v h)
 
-pub known-above : (most v : ℕ) → (v ≡ 0 → ⊥) → most < v → known most v ≡ 7
-known-above most v z h = rw (lt-ltb 0 v (omega arith), lt-leb v most h)
+pub known-above : (least most v : ℕ) → least ≤ v → most < v → known least most v ≡ 7
+known-above least most v h k = rw (le-leb least v h, lt-leb v most k)
 
-pub known-good : (most v : ℕ) → (v ≡ 0 → ⊥) → v ≤ most → known most v ≡ 0
-known-good most v z h = rw (lt-ltb 0 v (omega arith), le-leb v most h)
-
--- ---- the header
-module _ (s : List ℕ) where
-  abbrev r₁ : List ℕ → Got ℕ
-  r₁ = readNumber (known 1)
-
-  abbrev r₂ : List ℕ → Got ℕ
-  r₂ = readNumber (known lastEdition)
-
-  abbrev r₃ : List ℕ → Got ℕ
-  r₃ = readNumber any
-
-  abbrev two : List ℕ → Got (Both ℕ ℕ)
-  two = readBoth r₂ r₃
-
-  pub opens : (f b e l c n : ℕ) → valueAt 0 (r₁ (drop 0 s)) ≡ value.At f b → valueAt b (r₂ (drop b s)) ≡ value.At e l → valueAt l (r₃ (drop l s)) ≡ value.At c n
-      → opened.Book (record { format = f; edition = e; cut = c }) (record { at = n; floor = 0 }) ≡ openedBy (readHeader s)
-  unfolding readHeader
-  opens f b e l c n p q t =
-      let x = value-told 0 f b (r₁ (drop 0 s)) p in
-      let y = value-told b e l (r₂ (drop b s)) q in
-      let z = value-told l c n (r₃ (drop l s)) t in
-      let k : n ≡ x .n + (y .n + z .n) = omega (arith, x .place, y .place, z .place) in
-      let w : two (drop (0 + x .n) s) ≡ good (record { front = e; behind = c }) (y .n + z .n) =
-      rw (x .place) (then-good r₂ r₃ s b e (y .n) c (z .n) (y .is) (rw (y .place) (z .is))) in
-      ap (λ (i : ℕ). opened.Book (record { format = f; edition = e; cut = c }) (record { at = i; floor = 0 })) k
-      ∙ sym (ap (λ (g : Got (Both ℕ (Both ℕ ℕ))). openedBy (mapped headerOf g)) (then-good r₁ two s 0 f (x .n) (record { front = e; behind = c }) (y .n + z .n) (x .is) w))
-
-  pub opens-third : (f b e l g : ℕ) → valueAt 0 (r₁ (drop 0 s)) ≡ value.At f b → valueAt b (r₂ (drop b s)) ≡ value.At e l → valueAt l (r₃ (drop l s)) ≡ value.Fault g
-      → opened.Fault g ≡ openedBy (readHeader s)
-  unfolding readHeader
-  opens-third f b e l g p q t =
-      let x = value-told 0 f b (r₁ (drop 0 s)) p in
-      let y = value-told b e l (r₂ (drop b s)) q in
-      let w : two (drop (0 + x .n) s) ≡ bad g =
-      rw (x .place) (then-second r₂ r₃ s b e (y .n) g (y .is) (rw (y .place) (value-fault l g (r₃ (drop l s)) t))) in
-      sym (ap (λ (j : Got (Both ℕ (Both ℕ ℕ))). openedBy (mapped headerOf j)) (then-second r₁ two s 0 f (x .n) g (x .is) w))
-
-  pub opens-second : (f b g : ℕ) → valueAt 0 (r₁ (drop 0 s)) ≡ value.At f b → valueAt b (r₂ (drop b s)) ≡ value.Fault g
-      → opened.Fault g ≡ openedBy (readHeader s)
-  unfolding readHeader
-  opens-second f b g p q =
-      let x = value-told 0 f b (r₁ (drop 0 s)) p in
-      let w : two (drop (0 + x .n) s) ≡ bad g = rw (x .place) (then-first r₂ r₃ s b g (value-fault b g (r₂ (drop b s)) q)) in
-      sym (ap (λ (j : Got (Both ℕ (Both ℕ ℕ))). openedBy (mapped headerOf j)) (then-second r₁ two s 0 f (x .n) g (x .is) w))
-
-  pub opens-first : (g : ℕ) → valueAt 0 (r₁ (drop 0 s)) ≡ value.Fault g → opened.Fault g ≡ openedBy (readHeader s)
-  unfolding readHeader
-  opens-first g p =
-      sym (ap (λ (j : Got (Both ℕ (Both ℕ ℕ))). openedBy (mapped headerOf j)) (then-first r₁ two s 0 g (value-fault 0 g (r₁ (drop 0 s)) p)))
+pub known-good : (least most v : ℕ) → least ≤ v → v ≤ most → known least most v ≡ 0
+known-good least most v h k = rw (le-leb least v h, le-leb v most k)
 
 -- ---- both codes
 abbrev code : List ℕ → Got (List ℕ)
@@ -133,7 +82,7 @@ module _ (s : List ℕ) (at : ℕ) where
   first-code f p = sym (ap (codesAt at) (then-first code code s at f (part-fault at f (code (drop at s)) p)))
 
 -- ---- a record
-module _ (s : List ℕ) (at floor : ℕ) where
+module _ (s : List ℕ) (at kind floor : ℕ) where
   abbrev station : List ℕ → Got ℕ
   station = readNumber (rising floor)
 
@@ -147,7 +96,7 @@ module _ (s : List ℕ) (at floor : ℕ) where
       → valueAt at (station (drop at s)) ≡ value.At v b
       → partAt b (named (drop b s)) ≡ part.At sn l
       → codesAt l (coded (drop l s)) ≡ codes.At sp sa n
-      → step.Record v sn sp sa (record { at = n; floor = v + 1 }) ≡ stepAt at (readRecord floor (drop at s))
+      → step.Record v sn sp sa (record { at = n; floor = v + 1 }) kind ≡ bodyAt kind at (readRecord floor (drop at s))
   unfolding readRecord
   a-record v b sn l sp sa n p q t =
       let x = value-told at v b (station (drop at s)) p in
@@ -164,31 +113,31 @@ module _ (s : List ℕ) (at floor : ℕ) where
       let i′ : sp ≡ spanAt (at + length (number v) + length (text (y .t))) (z .p .front) = sym (z .primary) ∙ ap (λ (m : ℕ). spanAt m (z .p .front)) ln in
       let i″ : sa ≡ spanAt (at + length (number v) + length (text (y .t)) + length (text (z .p .front))) (z .p .behind) =
       sym (z .alternate) ∙ ap (λ (m : ℕ). spanAt (m + length (text (z .p .front))) (z .p .behind)) ln in
-      (λ d. step.Record v (i d) (i′ d) (i″ d) (record { at = k d; floor = v + 1 }))
-      ∙ sym (ap (λ (g : Got (Both ℕ Texts)). stepAt at (mapped recordOf g)) (then-good station texts s at v (x .n) (record { front = y .t; behind = z .p }) (y .n + z .n) (x .is) w))
+      (λ d. step.Record v (i d) (i′ d) (i″ d) (record { at = k d; floor = v + 1 }) kind)
+      ∙ sym (ap (λ (g : Got (Both ℕ Texts)). bodyAt kind at (mapped recordOf g)) (then-good station texts s at v (x .n) (record { front = y .t; behind = z .p }) (y .n + z .n) (x .is) w))
 
   pub codes-bad : (v b : ℕ) (sn : Span) (l f : ℕ) → valueAt at (station (drop at s)) ≡ value.At v b → partAt b (named (drop b s)) ≡ part.At sn l → codesAt l (coded (drop l s)) ≡ codes.Fault f
-      → step.Fault f ≡ stepAt at (readRecord floor (drop at s))
+      → step.Fault f ≡ bodyAt kind at (readRecord floor (drop at s))
   unfolding readRecord
   codes-bad v b sn l f p q t =
       let x = value-told at v b (station (drop at s)) p in
       let y = part-told b sn l (named (drop b s)) q in
       let w : texts (drop (at + x .n) s) ≡ bad f =
       rw (x .place) (then-second named coded s b (y .t) (y .n) f (y .is) (rw (y .place) (codes-fault l f (coded (drop l s)) t))) in
-      sym (ap (λ (g : Got (Both ℕ Texts)). stepAt at (mapped recordOf g)) (then-second station texts s at v (x .n) f (x .is) w))
+      sym (ap (λ (g : Got (Both ℕ Texts)). bodyAt kind at (mapped recordOf g)) (then-second station texts s at v (x .n) f (x .is) w))
 
   pub name-bad : (v b f : ℕ) → valueAt at (station (drop at s)) ≡ value.At v b → partAt b (named (drop b s)) ≡ part.Fault f
-      → step.Fault f ≡ stepAt at (readRecord floor (drop at s))
+      → step.Fault f ≡ bodyAt kind at (readRecord floor (drop at s))
   unfolding readRecord
   name-bad v b f p q =
       let x = value-told at v b (station (drop at s)) p in
       let w : texts (drop (at + x .n) s) ≡ bad f = rw (x .place) (then-first named coded s b f (part-fault b f (named (drop b s)) q)) in
-      sym (ap (λ (g : Got (Both ℕ Texts)). stepAt at (mapped recordOf g)) (then-second station texts s at v (x .n) f (x .is) w))
+      sym (ap (λ (g : Got (Both ℕ Texts)). bodyAt kind at (mapped recordOf g)) (then-second station texts s at v (x .n) f (x .is) w))
 
-  pub station-bad : (f : ℕ) → valueAt at (station (drop at s)) ≡ value.Fault f → step.Fault f ≡ stepAt at (readRecord floor (drop at s))
+  pub station-bad : (f : ℕ) → valueAt at (station (drop at s)) ≡ value.Fault f → step.Fault f ≡ bodyAt kind at (readRecord floor (drop at s))
   unfolding readRecord
   station-bad f p =
-      sym (ap (λ (g : Got (Both ℕ Texts)). stepAt at (mapped recordOf g)) (then-first station texts s at f (value-fault at f (station (drop at s)) p)))
+      sym (ap (λ (g : Got (Both ℕ Texts)). bodyAt kind at (mapped recordOf g)) (then-first station texts s at f (value-fault at f (station (drop at s)) p)))
 
   -- a station that was read is below 2 ^ 28
   pub station-small : (v b : ℕ) → valueAt at (station (drop at s)) ≡ value.At v b → v < 2 ^ 28

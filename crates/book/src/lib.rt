@@ -1,13 +1,14 @@
-// The station key book, read: a header and records, at a cursor or to the end. A fault is document 02's number: 1 and 2 for a name that the
-// encoder refuses, 5 a number in a bad form, 6 the book ends inside something, 7 unknown format or edition, 8 station not above the one before.
+// The station key book, read: a header and records with their kinds, at a cursor or to the end. A fault is document 02's number: 1 and 2 for
+// a name that the encoder refuses, 5 a number in a bad form, 6 the book ends inside something, 7 unknown format, edition or kind, 8 station
+// not above the one before.
 ghost use mathlib.Core.Path.{_≡_};
 ghost use Prim.Native.Nat.{_≤_};
 ghost use lib.ListN.{length, drop};
 ghost use Rattle.fields.specs.Got.{readBoth};
 ghost use Rattle.fields.specs.Field.{readNumber, readBytes, readText, faultIn, any};
 ghost use Rattle.fields.specs.Told.{valueAt, partAt, bytesAt};
-ghost use Rattle.book.specs.Book.{known, rising, nameLength, nameByte, readHeader, readRecord, readRecords, readBook};
-ghost use Rattle.book.specs.Told.{openedBy, codesAt, stepAt, nextOf, surveyed, wholeBy};
+ghost use Rattle.book.specs.Book.{known, formats, editions, rising, nameLength, nameByte, readHeaderBy, readRecord, readKind, readEntry, readEntries, readBookBy};
+ghost use Rattle.book.specs.Told.{openedBy, codesAt, bodyAt, stepAt, unknown, nextOf, surveyed, unmeasured, wholeBy};
 use encoder::WORD_LIMIT;
 use encoder::is_ascii;
 use fields::Part;
@@ -15,7 +16,7 @@ use fields::Span;
 use fields::Value;
 
 // The formats and the rule editions that are known are those from 1 up to these.
-pub const FORMAT: u32 = 1;
+pub const FORMAT: u32 = 2;
 
 pub const EDITION: u32 = 2;
 
@@ -53,31 +54,42 @@ pub enum Step {
         primary: Span,
         alternate: Span,
         next: Cursor,
+        kind: u32,
     },
     End,
     Fault(u8),
 }
 
+// How many records there are and how many of them are live, the least station behind all of them and behind the live ones, and how many
+// bytes the live ones take.
+pub struct Measure {
+    pub count: usize,
+    pub live: usize,
+    pub floor: u32,
+    pub least: u32,
+    pub size: usize,
+}
+
 pub enum Survey {
-    All { count: usize, floor: u32 },
+    All(Measure),
     Fault(u8),
 }
 
-// A book that was read to its end; `floor` is the least station that a further record may have.
+// A book that was read to its end: where its records begin, and what they measure.
 pub enum Whole {
     Book {
         header: Header,
-        records: usize,
-        floor: u32,
+        first: usize,
+        measure: Measure,
     },
     Fault(u8),
 }
 
-// 7 for a format or an edition that is not one of those from 1 to `most`, else 0.
-pub fn known_fault(value: u32, most: u32) -> u8
-    ensures { λ r. ⌜ r ≡ known most value ⌝ }
+// 7 for a format or an edition that is not one of those from `least` to `most`, else 0.
+fn known_fault(value: u32, least: u32, most: u32) -> u8
+    ensures { λ r. ⌜ r ≡ known least most value ⌝ }
 {
-    if value == 0 {
+    if value < least {
         return 7;
     }
     if most < value {
@@ -86,13 +98,24 @@ pub fn known_fault(value: u32, most: u32) -> u8
     0
 }
 
-fn known_at(s: &[u8], at: usize, most: u32) -> Value
-    ensures { λ r. ⌜ r ≡ valueAt at (readNumber (known most) (drop at (now (s .entry)))) ⌝ }
+// 7 for a format or an edition that is not known, else 0.
+pub fn unknown_fault(format: u32, edition: u32) -> u8
+    ensures { λ r. ⌜ r ≡ unknown format edition ⌝ }
+{
+    let fault = known_fault(format, 1, FORMAT);
+    if fault != 0 {
+        return fault;
+    }
+    known_fault(edition, 1, EDITION)
+}
+
+fn known_at(s: &[u8], at: usize, least: u32, most: u32) -> Value
+    ensures { λ r. ⌜ r ≡ valueAt at (readNumber (known least most) (drop at (now (s .entry)))) ⌝ }
 {
     let found = fields::number_at(s, at);
     match found {
         Value::At { value, next } => {
-            let fault = known_fault(value, most);
+            let fault = known_fault(value, least, most);
             if fault != 0 {
                 return Value::Fault(fault);
             }
@@ -102,17 +125,17 @@ fn known_at(s: &[u8], at: usize, most: u32) -> Value
     }
 }
 
-// The header of a book, and a cursor at its first record.
-pub fn open(s: &[u8]) -> Opened
-    ensures { λ r. ⌜ r ≡ openedBy (readHeader (now (s .entry))) ⌝ }
+// The header of a book of a format from `least` on, and a cursor at its first record.
+pub fn open(s: &[u8], least: u32) -> Opened
+    ensures { λ r. ⌜ r ≡ openedBy (readHeaderBy (formats least) (now (s .entry))) ⌝ }
 {
-    let first = known_at(s, 0, FORMAT);
+    let first = known_at(s, 0, least, FORMAT);
     match first {
         Value::At {
             value: format,
             next: behind,
         } => {
-            let second = known_at(s, behind, EDITION);
+            let second = known_at(s, behind, 1, EDITION);
             match second {
                 Value::At {
                     value: edition,
@@ -216,9 +239,9 @@ fn codes_at(s: &[u8], at: usize) -> Codes
     }
 }
 
-// The record at any place, whose station must be at least `floor`.
-pub fn record_at(s: &[u8], at: usize, floor: u32) -> Step
-    ensures { λ r. ⌜ r ≡ stepAt at (readRecord floor (drop at (now (s .entry)))) ⌝ }
+// The record behind its kind.
+fn body_at(s: &[u8], at: usize, kind: u32, floor: u32) -> Step
+    ensures { λ r. ⌜ r ≡ bodyAt kind at (readRecord floor (drop at (now (s .entry)))) ⌝ }
 {
     let first = station_at(s, at, floor);
     match first {
@@ -247,6 +270,7 @@ pub fn record_at(s: &[u8], at: usize, floor: u32) -> Step
                                 at: next,
                                 floor: station + 1,
                             },
+                            kind,
                         },
                         Codes::Fault(f) => Step::Fault(f),
                     }
@@ -258,27 +282,64 @@ pub fn record_at(s: &[u8], at: usize, floor: u32) -> Step
     }
 }
 
-// The record at a cursor, and the cursor behind it.
-pub fn next(s: &[u8], c: Cursor) -> Step
-    ensures { λ r. ⌜ r ≡ nextOf (now (s .entry)) c ⌝ }
+// The kind at a place. Format 1 spells none: its records are live.
+fn kind_at(s: &[u8], at: usize, format: u32) -> Value
+    ensures { λ r. ⌜ r ≡ valueAt at (readKind format (drop at (now (s .entry)))) ⌝ }
 {
+    if format == 1 {
+        return Value::At { value: 1, next: at };
+    }
+    let found = fields::number_at(s, at);
+    match found {
+        Value::At { value, next } => {
+            if 1 < value {
+                return Value::Fault(7);
+            }
+            Value::At { value, next }
+        }
+        Value::Fault(f) => Value::Fault(f),
+    }
+}
+
+// The record at any place, with its kind; its station must be at least `floor`.
+pub fn record_at(s: &[u8], at: usize, format: u32, floor: u32) -> Step
+    ensures { λ r. ⌜ r ≡ stepAt format at (readEntry format floor (drop at (now (s .entry)))) ⌝ }
+{
+    let first = kind_at(s, at, format);
+    match first {
+        Value::At { value, next } => body_at(s, next, value, floor),
+        Value::Fault(f) => Step::Fault(f),
+    }
+}
+
+// The record at a cursor of a book with this format and edition, and the cursor behind it.
+pub fn next(s: &[u8], format: u32, edition: u32, c: Cursor) -> Step
+    ensures { λ r. ⌜ r ≡ nextOf (now (s .entry)) format edition c ⌝ }
+{
+    let fault = unknown_fault(format, edition);
+    if fault != 0 {
+        return Step::Fault(fault);
+    }
     let at = c.at;
     let floor = c.floor;
     if s.len() <= at {
         return Step::End;
     }
-    record_at(s, at, floor)
+    record_at(s, at, format, floor)
 }
 
-// All records from a place on: how many, and the least station behind them.
-pub fn records_from(s: &[u8], from: usize) -> Survey
-    ensures { λ r. ⌜ r ≡ surveyed 0 0 (readRecords 0 (drop from (now (s .entry)))) ⌝ }
+// Measures all records from a place on.
+pub fn records_from(s: &[u8], from: usize, format: u32) -> Survey
+    ensures { λ r. ⌜ r ≡ surveyed format unmeasured (readEntries format 0 (drop from (now (s .entry)))) ⌝ }
 {
     let mut at = from;
-    let mut floor: u32 = 0;
     let mut count: usize = 0;
+    let mut live: usize = 0;
+    let mut floor: u32 = 0;
+    let mut least: u32 = 0;
+    let mut size: usize = 0;
     while at < s.len() {
-        let one = record_at(s, at, floor);
+        let one = record_at(s, at, format, floor);
         match one {
             Step::Record {
                 station: _,
@@ -286,9 +347,17 @@ pub fn records_from(s: &[u8], from: usize) -> Survey
                 primary: _,
                 alternate: _,
                 next,
+                kind,
             } => {
-                at = next.at;
-                floor = next.floor;
+                let end = next.at;
+                let above = next.floor;
+                if kind == 1 {
+                    live += 1;
+                    least = above;
+                    size += end - at;
+                }
+                at = end;
+                floor = above;
                 count += 1;
             }
             Step::End => {
@@ -299,23 +368,30 @@ pub fn records_from(s: &[u8], from: usize) -> Survey
             }
         }
     }
-    Survey::All { count, floor }
+    Survey::All(Measure {
+        count,
+        live,
+        floor,
+        least,
+        size,
+    })
 }
 
-// Reads a whole book.
-pub fn read(s: &[u8]) -> Whole
-    ensures { λ r. ⌜ r ≡ wholeBy (readBook (now (s .entry))) ⌝ }
+// Reads a whole book of a format from `least` on.
+pub fn read(s: &[u8], least: u32) -> Whole
+    ensures { λ r. ⌜ r ≡ wholeBy (readBookBy (formats least) (now (s .entry))) ⌝ }
 {
-    let opened = open(s);
+    let opened = open(s, least);
     match opened {
         Opened::Book { header, first } => {
             let at = first.at;
-            let all = records_from(s, at);
+            let format = header.format;
+            let all = records_from(s, at, format);
             match all {
-                Survey::All { count, floor } => Whole::Book {
+                Survey::All(measure) => Whole::Book {
                     header,
-                    records: count,
-                    floor,
+                    first: at,
+                    measure,
                 },
                 Survey::Fault(f) => Whole::Fault(f),
             }

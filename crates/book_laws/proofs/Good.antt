@@ -4,7 +4,7 @@ use mathlib.Core.Path.{_≡_, refl}
 use mathlib.Core.Bool.{Bool, true, false, cond}
 use mathlib.Core.List.{List, [], _∷_}
 use native.Mathlib.Omega.{arith}
-use borrow.Author.Tests.{lt-ltb, le-ltb, le-leb, ltb-true, ltb-false, leb-true}
+use borrow.Author.Tests.{le-ltb, ltb-false, leb-true, eqb-true, eqb-false}
 use lib.Dec.{ltb, leb, eqb}
 use lib.ListN.{length}
 use Rattle.number.specs.Septets.{Bytes}
@@ -16,9 +16,11 @@ use Rattle.fields.proofs.Field.{none-in}
 use Rattle.fields.proofs.All as all
 use Rattle.encoder.specs.Editions.{lastEdition}
 use Rattle.book.specs.declared.Header.{Header}
-use Rattle.book.specs.Book.{Record, Book, written, known, rising, nameLength, nameByte, above, readBook}
+use Rattle.book.specs.Book.{Record, Entry, Book, written, known, lastFormat, formats, kinds, rising, nameLength, nameByte, above, readBook}
+use Rattle.book.proofs.Book.{FineHeader, FineRecord, FineKind, unspelt, spelt, FineEntries, reads-back, OneBook, one-book}
+use Rattle.book.proofs.Told.{known-good}
+use Rattle.book.proofs.Entries.{kind-good}
 use Rattle.book_laws.specs.Good.{GoodHeader, GoodRecord, GoodRecords, none, more}
-use Rattle.book.proofs.Book.{FineHeader, FineRecord, FineRecords, reads-back, OneBook, one-book}
 
 -- ---- a name without a high byte shows no fault
 pub clean : (w : List ℕ) → length w ≤ firstHigh w → faultIn nameByte w ≡ 0
@@ -31,11 +33,11 @@ clean (b ∷ w) h = go (leb 128 b) (clean w) h
     go false ih h = ih (omega arith)
 
 -- ---- from plain terms to the judges'
-header-fine : (h : Header) → GoodHeader h → FineHeader h
+header-fine : (h : Header) → GoodHeader h → FineHeader (formats 1) h
 header-fine h x = record {
-  front = record { small = rw (x .format) (omega arith); judged = rw (x .format) };
+  front = record { small = omega (arith, x .format .1); judged = known-good 1 lastFormat (h .format) (x .format .0) (x .format .1) };
   behind = record {
-    front = record { small = omega (arith, x .edition .1); judged = rw (lt-ltb 0 (h .edition) (x .edition .0), le-leb (h .edition) lastEdition (x .edition .1)) };
+    front = record { small = omega (arith, x .edition .1); judged = known-good 1 lastEdition (h .edition) (x .edition .0) (x .edition .1) };
     behind = record { small = x .cut; judged = refl };
   };
 }
@@ -52,20 +54,35 @@ record-fine floor r x = record {
   };
 }
 
-records-fine : (floor : ℕ) (rs : List Record) → GoodRecords floor rs → FineRecords floor rs
-records-fine floor [] none = all.none
-records-fine floor (r ∷ rs) (more x xs) = all.more (record-fine floor r x) (records-fine (above r) rs xs)
+kind-fine : (format k : ℕ) → k ≤ 1 → (format ≡ 1 → k ≡ 1) → FineKind format k
+kind-fine format k h z = go (eqb format 1) refl
+  where
+    go : (t : Bool) → eqb format 1 ≡ t → FineKind format k
+    go true e = unspelt e (z (eqb-true format 1 e))
+    go false e = spelt e (record { small = omega arith; judged = kind-good k h })
+
+records-fine : (format floor : ℕ) (es : List Entry) → GoodRecords format floor es → FineEntries format floor es
+records-fine format floor [] none = all.none
+records-fine format floor (e ∷ es) (more x xs) =
+    all.more (record { front = kind-fine format (e .kind) (x .kind) (x .one); behind = record-fine floor (e .body) (x .body) }) (records-fine format (above e) es xs)
 
 -- ---- and back
-is-known : (most v : ℕ) → known most v ≡ 0 → (1 ≤ v) × (v ≤ most)
-is-known most v e = go (ltb 0 v) refl (leb v most) refl e
+pub is-known : (least most v : ℕ) → known least most v ≡ 0 → (least ≤ v) × (v ≤ most)
+is-known least most v e = go (leb least v) refl (leb v most) refl e
   where
-    go : (p : Bool) → ltb 0 v ≡ p → (q : Bool) → leb v most ≡ q → _≡_ {A = ℕ} (cond p (cond q 0 7) 7) 0 → (1 ≤ v) × (v ≤ most)
+    go : (p : Bool) → leb least v ≡ p → (q : Bool) → leb v most ≡ q → _≡_ {A = ℕ} (cond p (cond q 0 7) 7) 0 → (least ≤ v) × (v ≤ most)
     go false d q f e = absurd (omega arith)
     go true d false f e = absurd (omega arith)
-    go true d true f e = (ltb-true 0 v d, leb-true v most f)
+    go true d true f e = (leb-true least v d, leb-true v most f)
 
-not-below : (floor v : ℕ) → rising floor v ≡ 0 → floor ≤ v
+pub is-kind : (v : ℕ) → kinds v ≡ 0 → v ≤ 1
+is-kind v e = go (leb v 1) refl e
+  where
+    go : (q : Bool) → leb v 1 ≡ q → _≡_ {A = ℕ} (cond q 0 7) 0 → v ≤ 1
+    go false f e = absurd (omega arith)
+    go true f e = leb-true v 1 f
+
+pub not-below : (floor v : ℕ) → rising floor v ≡ 0 → floor ≤ v
 not-below floor v e = go (ltb v floor) refl e
   where
     go : (p : Bool) → ltb v floor ≡ p → _≡_ {A = ℕ} (cond p 8 0) 0 → floor ≤ v
@@ -88,10 +105,12 @@ no-high (b ∷ w) e = go (leb 128 b) (no-high w) e
     go true ih e = absurd (omega arith)
     go false ih e = omega (arith, ih e)
 
-header-good : (h : Header) → FineHeader h → GoodHeader h
-header-good h x =
-    let f = is-known 1 (h .format) (x .front .judged) in
-    record { format = omega (arith, f .0, f .1); edition = is-known lastEdition (h .edition) (x .behind .front .judged); cut = x .behind .behind .small }
+header-good : (h : Header) → FineHeader (formats 1) h → GoodHeader h
+header-good h x = record {
+  format = is-known 1 lastFormat (h .format) (x .front .judged);
+  edition = is-known 1 lastEdition (h .edition) (x .behind .front .judged);
+  cut = x .behind .behind .small;
+}
 
 record-good : (floor : ℕ) (r : Record) → FineRecord floor r → GoodRecord floor r
 record-good floor r x = record {
@@ -103,21 +122,30 @@ record-good floor r x = record {
   alternate = x .behind .behind .behind .long .small;
 }
 
-records-good : (floor : ℕ) (rs : List Record) → FineRecords floor rs → GoodRecords floor rs
-records-good floor [] all.none = none
-records-good floor (r ∷ rs) (all.more x xs) = more (record-good floor r x) (records-good (above r) rs xs)
+pub kind-low : (format k : ℕ) → FineKind format k → k ≤ 1
+kind-low format k (unspelt e f) = omega (arith, f)
+kind-low format k (spelt e x) = is-kind k (x .judged)
+
+pub kind-one : (format k : ℕ) → format ≡ 1 → FineKind format k → k ≡ 1
+kind-one format k z (unspelt e f) = f
+kind-one format k z (spelt e x) = absurd (eqb-false format 1 e z)
+
+records-good : (format floor : ℕ) (es : List Entry) → FineEntries format floor es → GoodRecords format floor es
+records-good format floor [] all.none = none
+records-good format floor (e ∷ es) (all.more x xs) =
+    more (record { kind = kind-low format (e .kind) (x .front); one = λ z. kind-one format (e .kind) z (x .front); body = record-good floor (e .body) (x .behind) }) (records-good format (above e) es xs)
 
 -- ---- reading a written book gives its header and records back
-pub round-trip : (h : Header) (rs : List Record) → GoodHeader h → GoodRecords 0 rs → readBook (written h rs) ≡ good (record { header = h; records = rs }) (length (written h rs))
-round-trip h rs x xs = reads-back h rs (header-fine h x) (records-fine 0 rs xs)
+pub round-trip : (h : Header) (es : List Entry) → GoodHeader h → GoodRecords (h .format) 0 es → readBook (written h es) ≡ good (record { header = h; records = es }) (length (written h es))
+round-trip h es x xs = reads-back (formats 1) h es (header-fine h x) (records-fine (h .format) 0 es xs)
 
 -- ---- bytes that read as a book are the writing of what they read as, and that is good
 pub record Reads (l : List ℕ) (b : Book) : Type 0 where
   pub bytes : l ≡ written (b .header) (b .records)
   pub header : GoodHeader (b .header)
-  pub records : GoodRecords 0 (b .records)
+  pub records : GoodRecords (b .header .format) 0 (b .records)
 
 pub only-book : (l : List ℕ) → Bytes l → (b : Book) (n : ℕ) → readBook l ≡ good b n → Reads l b
 only-book l bs b n e =
-    let o : OneBook l b n = one-book l bs b n e in
-    record { bytes = o .bytes; header = header-good (b .header) (o .header); records = records-good 0 (b .records) (o .records) }
+    let o : OneBook (formats 1) l b n = one-book (formats 1) l bs b n e in
+    record { bytes = o .bytes; header = header-good (b .header) (o .header); records = records-good (b .header .format) 0 (b .records) (o .records) }

@@ -7,10 +7,10 @@ use Rattle.encoder.specs.Numbers.{wordLimit}
 use Rattle.encoder.specs.Trim.{firstHigh}
 use Rattle.encoder.specs.Editions.{lastEdition}
 use Rattle.book.specs.declared.Header.{Header}
-use Rattle.book.specs.Book.{Record, above}
+use Rattle.book.specs.Book.{Record, Entry, lastFormat, above}
 
 pub record GoodHeader (h : Header) : Type 0 where
-  pub format : h .format ≡ 1
+  pub format : (1 ≤ h .format) × (h .format ≤ lastFormat)
   pub edition : (1 ≤ h .edition) × (h .edition ≤ lastEdition)
   pub cut : h .cut < 2 ^ 28
 
@@ -23,7 +23,13 @@ pub record GoodRecord (floor : ℕ) (r : Record) : Type 0 where
   pub primary : length (r .primary) < 2 ^ 28
   pub alternate : length (r .alternate) < 2 ^ 28
 
--- each above the one before
-pub data GoodRecords : ℕ → List Record → Type 0 where
-  none : {floor : ℕ} → GoodRecords floor []
-  more : {floor : ℕ} {r : Record} {rs : List Record} → GoodRecord floor r → GoodRecords (above r) rs → GoodRecords floor (r ∷ rs)
+-- with its kind: live or closed, and live in a book of format 1
+pub record GoodEntry (format floor : ℕ) (e : Entry) : Type 0 where
+  pub kind : e .kind ≤ 1
+  pub one : format ≡ 1 → e .kind ≡ 1
+  pub body : GoodRecord floor (e .body)
+
+-- each above the one before, live or closed
+pub data GoodRecords (format : ℕ) : ℕ → List Entry → Type 0 where
+  none : {floor : ℕ} → GoodRecords format floor []
+  more : {floor : ℕ} {e : Entry} {es : List Entry} → GoodEntry format floor e → GoodRecords format (above e) es → GoodRecords format floor (e ∷ es)

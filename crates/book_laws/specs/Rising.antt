@@ -2,11 +2,12 @@
 use Prim.Native.Nat.{ℕ, _<_}
 use mathlib.Core.List.{List, [], _∷_}
 use lib.ListN.{length, getD}
-use Rattle.book.specs.Book.{Record}
+use Rattle.book.specs.Book.{Entry}
 
-abbrev pub stations : List Record → List ℕ
+-- of live and closed records
+abbrev pub stations : List Entry → List ℕ
 stations [] = []
-stations (r ∷ rs) = r .station ∷ stations rs
+stations (e ∷ es) = e .body .station ∷ stations es
 
 abbrev pub Rising : List ℕ → Type 0
 Rising l = (i j : ℕ) → i < j → j < length l → getD l i 0 < getD l j 0

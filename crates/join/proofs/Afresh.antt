@@ -1,7 +1,9 @@
--- THE THEOREM of request L3: where the stored codes of both books are right for their names, the pairs are those of encoding all names
+-- THE THEOREM of request L3: where the codes of the live records of both books are right for their names, the pairs are those of encoding all names
 -- afresh with limit m. The codes of books that the writer makes are right. Assumes nothing.
 use Prim.Native.Nat.{ℕ}
 use mathlib.Core.Path.{_≡_, refl, sym, ap, ap₂, subst, _∙_}
+use lib.Dec.{eqb}
+use mathlib.Core.Bool.{Bool, true, false, cond, _&&_}
 use mathlib.Core.List.{List, [], _∷_, _++_}
 use Rattle.rules.specs.declared.Edition.{Edition}
 use Rattle.encoder.specs.declared.Limit.{Limit}
@@ -13,13 +15,14 @@ use Rattle.encoder.specs.Editions.{editionOf}
 use Rattle.encoder.specs.Chosen.{codeOf}
 use Rattle.encoder.proofs.Demand3.{limited}
 use Rattle.book.specs.declared.Header.{Header}
-use Rattle.book.specs.Book.{Record, Book}
-use Rattle.writer.specs.Made.{limitOf, newHeader, keyed}
-use Rattle.book_laws.proofs.Grows.{longer}
+use Rattle.book.specs.Book.{Record, Entry, Book, isLive, live}
+use Rattle.writer.specs.Made.{limitOf, newHeader, keyed, keyedEntry}
+use Rattle.closing.specs.Closing.{closed, closedIn}
+use Rattle.book_laws.proofs.Going.{longer}
 use Rattle.pairs.specs.Cut.{clip}
 use Rattle.pairs.specs.Pairs.{Coded, pairs}
 use Rattle.pairs.proofs.Fresh as fresh
-use Rattle.sides.specs.Sides.{chosenCode, codedAll, joinOf, limitsOf}
+use Rattle.sides.specs.Sides.{bodies, standing, chosenCode, codedAll, joinOf, limitsOf}
 use Rattle.join.specs.Afresh.{RightUnder, AllRight, editionIn, Right, freshly}
 
 -- demand 3: a code under a limit is the unlimited one, cut
@@ -53,16 +56,16 @@ module _ (ed : Edition) (c : Choice) (l : Limit) where
 
 -- where their editions are the same, which the join asks
 pub afresh : (c : Choice) (x y : Book) → x .header .edition ≡ y .header .edition → Right x → Right y
-    → joinOf c x y ≡ pairs Whole (freshly (editionIn x) (limitsOf x y) c (x .records)) (freshly (editionIn x) (limitsOf x y) c (y .records))
+    → joinOf c x y ≡ pairs Whole (freshly (editionIn x) (limitsOf x y) c (standing (x .records))) (freshly (editionIn x) (limitsOf x y) c (standing (y .records)))
 afresh c x y e p q =
     let ed : Edition = editionIn x in
     let lx : Limit = limitOf (x .header .cut) in
     let ly : Limit = limitOf (y .header .cut) in
     let m : Limit = limitsOf x y in
-    let s : AllRight ed ly (y .records) = subst (λ (n : ℕ). AllRight (editionOf n) ly (y .records)) (sym e) q in
-    ap₂ (pairs m) (all-fresh ed c lx (x .records) p ∙ by-names ed c lx (x .records)) (all-fresh ed c ly (y .records) s ∙ by-names ed c ly (y .records))
-    ∙ fresh.afresh (λ l w. codeOf ed l c w) (cut-code ed c) lx ly (entries (x .records)) (entries (y .records))
-    ∙ sym (ap₂ (pairs Whole) (by-names ed c m (x .records)) (by-names ed c m (y .records)))
+    let s : AllRight ed ly (standing (y .records)) = subst (λ (n : ℕ). AllRight (editionOf n) ly (standing (y .records))) (sym e) q in
+    ap₂ (pairs m) (all-fresh ed c lx (standing (x .records)) p ∙ by-names ed c lx (standing (x .records))) (all-fresh ed c ly (standing (y .records)) s ∙ by-names ed c ly (standing (y .records)))
+    ∙ fresh.afresh (λ l w. codeOf ed l c w) (cut-code ed c) lx ly (entries (standing (x .records))) (entries (standing (y .records)))
+    ∙ sym (ap₂ (pairs Whole) (by-names ed c m (standing (x .records))) (by-names ed c m (standing (y .records))))
 
 -- ---- the writer's codes are right: a new record's are, a new book has none, and one record more keeps a book right; that these are the
 -- books it leaves is `start-reads` and `add-reads` of crates/book_laws/proofs/Grows.antt
@@ -73,12 +76,50 @@ keyed-right h station name = record { primary = refl; alternate = refl }
 pub start-right : (cut : ℕ) → Right (record { header = newHeader cut; records = [] })
 start-right cut = tt
 
-pub longer-right : (b : Book) (station : ℕ) (name : List ℕ) → Right b → Right (longer b station name)
-longer-right b station name x = go (b .records) x
+all-more : (ed : Edition) (l : Limit) (es : List Entry) (e : Entry) → AllRight ed l (standing es) → RightUnder ed l (e .body) → AllRight ed l (standing (es ++ e ∷ []))
+all-more ed l [] e x y = go (isLive e)
   where
-    h : Header
-    h = b .header
+    go : (t : Bool) → AllRight ed l (bodies (cond t (e ∷ []) []))
+    go true = (y, tt)
+    go false = tt
+all-more ed l (q ∷ es) e x y = go (isLive q) (λ z. all-more ed l es e z y) x
+  where
+    go : (t : Bool) → (AllRight ed l (standing es) → AllRight ed l (standing (es ++ e ∷ []))) → AllRight ed l (bodies (cond t (q ∷ live es) (live es)))
+        → AllRight ed l (bodies (cond t (q ∷ live (es ++ e ∷ [])) (live (es ++ e ∷ []))))
+    go true ih z = (z .0, ih (z .1))
+    go false ih z = ih z
 
-    go : (rs : List Record) → AllRight (editionOf (h .edition)) (limitOf (h .cut)) rs → AllRight (editionOf (h .edition)) (limitOf (h .cut)) (rs ++ keyed h station name ∷ [])
-    go [] y = (keyed-right h station name, tt)
-    go (r ∷ rs) y = (y .0, go rs (y .1))
+pub longer-right : (b : Book) (station : ℕ) (name : List ℕ) → Right b → Right (longer b station name)
+longer-right b station name x =
+    all-more (editionIn b) (limitOf (b .header .cut)) (b .records) (keyedEntry (b .header) station name) x (keyed-right (b .header) station name)
+
+-- ---- closing keeps it right, and so does closing up: a join sees the same of the live records
+live-live : (es : List Entry) → live (live es) ≡ live es
+live-live [] = refl
+live-live (e ∷ es) = go (isLive e) refl (live-live es)
+  where
+    go : (t : Bool) → isLive e ≡ t → live (live es) ≡ live es → live (cond t (e ∷ live es) (live es)) ≡ cond t (e ∷ live es) (live es)
+    go true d ih = ap (λ (t : Bool). cond t (e ∷ live (live es)) (live (live es))) d ∙ ap (λ (l : List Entry). e ∷ l) ih
+    go false d ih = ih
+
+pub live-right : (b : Book) → Right b → Right (record { header = b .header; records = live (b .records) })
+live-right b x = subst (λ (es : List Entry). AllRight (editionIn b) (limitOf (b .header .cut)) (bodies es)) (sym (live-live (b .records))) x
+
+pub closed-right : (b : Book) (station : ℕ) → Right b → Right (record { header = b .header; records = closedIn station (b .records) })
+closed-right b station x = go (b .records) x
+  where
+    ed : Edition
+    ed = editionIn b
+
+    l : Limit
+    l = limitOf (b .header .cut)
+
+    go : (es : List Entry) → AllRight (editionIn b) (limitOf (b .header .cut)) (standing es) → AllRight (editionIn b) (limitOf (b .header .cut)) (standing (closedIn station es))
+    go [] y = y
+    go (e ∷ es) y = one (isLive e) refl (eqb (e .body .station) station) (go es) y
+      where
+        one : (t : Bool) → isLive e ≡ t → (q : Bool) → (AllRight (editionIn b) (limitOf (b .header .cut)) (standing es) → AllRight (editionIn b) (limitOf (b .header .cut)) (standing (closedIn station es)))
+            → AllRight (editionIn b) (limitOf (b .header .cut)) (bodies (cond t (e ∷ live es) (live es))) → AllRight (editionIn b) (limitOf (b .header .cut)) (standing (cond (t && q) (closed e ∷ es) (e ∷ closedIn station es)))
+        one true d true ih y = y .1
+        one true d false ih y = subst (λ (t : Bool). AllRight (editionIn b) (limitOf (b .header .cut)) (bodies (cond t (e ∷ live (closedIn station es)) (live (closedIn station es))))) (sym d) (y .0, ih (y .1))
+        one false d q ih y = subst (λ (t : Bool). AllRight (editionIn b) (limitOf (b .header .cut)) (bodies (cond t (e ∷ live (closedIn station es)) (live (closedIn station es))))) (sym d) (ih y)

@@ -1,19 +1,20 @@
--- A join lists all pairs and no others: (s, t) is listed exactly when some record of the first book with the station s and some record of
--- the second with the station t have codes that agree under the smaller limit. Assumes nothing.
+-- A join lists all pairs and no others: (s, t) is listed exactly when some live record of the first book with the station s and some live
+-- record of the second with the station t have codes that agree under the smaller limit. Assumes nothing.
 use Prim.Native.Nat.{ℕ}
 use mathlib.Core.Path.{_≡_, refl, sym, ap, _∙_}
 use mathlib.Core.Logic.{_⊎_, inl, inr, ⊎-elim, _↔_}
 use mathlib.Core.Bool.{Bool, true, false, cond}
 use mathlib.Core.List.{List, [], _∷_, List·Memᴰ·head, List·Memᴰ·tail, List·Memᴰ·not-nil, List·Memᴰ·cases-cons, Memᴰ·append-left, Memᴰ·append-right, List·Memᴰ·append-cases}
 use native.Mathlib.Omega.{arith}
+use borrow.Author.Tests.{eqb-true, eqb-false}
 use Rattle.windows.specs.Text.{same}
 use Rattle.windows.proofs.Facts.{same-true, same-refl}
 use Rattle.encoder.specs.declared.Limit.{Limit}
 use Rattle.encoder.specs.declared.Choice.{Choice}
-use Rattle.book.specs.Book.{Record, Book}
+use Rattle.book.specs.Book.{Record, Entry, Book, isLive, live}
 use Rattle.pairs.specs.Cut.{clip}
 use Rattle.pairs.specs.Pairs.{meets, beside, pairs}
-use Rattle.sides.specs.Sides.{chosenCode, codedAll, joinOf, limitsOf}
+use Rattle.sides.specs.Sides.{bodies, standing, chosenCode, codedAll, joinOf, limitsOf}
 use Rattle.join.specs.Order.{In, Agree}
 
 -- a record among a book's, by its station and its key: the chosen code under m
@@ -98,22 +99,60 @@ module _ (c : Choice) (m : Limit) where
       (λ (z : In p xs). Memᴰ·append-right (beside (r .station) row) (shown xs ys p q e b z))
       (List·Memᴰ·cases-cons d)
 
+-- ---- a record among those of the live ones is a live one's
+record Live (es : List Entry) (r : Record) : Type 0 where
+  e : Entry
+  among : In e es
+  kind : e .kind ≡ 1
+  body : r ≡ e .body
+
+live-one : (es : List Entry) (r : Record) → In r (standing es) → Live es r
+live-one [] r d = absurd (List·Memᴰ·not-nil d)
+live-one (e ∷ es) r d = go (isLive e) refl (live-one es r) d
+  where
+    later-one : Live es r → Live (e ∷ es) r
+    later-one z = record { e = z .e; among = List·Memᴰ·tail (z .among); kind = z .kind; body = z .body }
+
+    go : (t : Bool) → isLive e ≡ t → (In r (standing es) → Live es r) → In r (bodies (cond t (e ∷ live es) (live es))) → Live (e ∷ es) r
+    go true f ih d =
+        ⊎-elim (λ (p : r ≡ e .body). record { e = e; among = List·Memᴰ·head refl; kind = eqb-true (e .kind) 1 f; body = p }) (λ (z : In r (standing es)). later-one (ih z)) (List·Memᴰ·cases-cons d)
+    go false f ih d = later-one (ih d)
+
+stands : (es : List Entry) (e : Entry) → e .kind ≡ 1 → In e es → In (e .body) (standing es)
+stands [] e k d = absurd (List·Memᴰ·not-nil d)
+stands (q ∷ es) e k d = go (isLive q) refl (stands es e k) (List·Memᴰ·cases-cons d)
+  where
+    go : (t : Bool) → isLive q ≡ t → (In e es → In (e .body) (standing es)) → (e ≡ q) ⊎ In e es → In (e .body) (bodies (cond t (q ∷ live es) (live es)))
+    go true f ih (inl p) = List·Memᴰ·head (ap (λ (x : Entry). x .body) p)
+    go true f ih (inr z) = List·Memᴰ·tail (ih z)
+    go false f ih (inl p) = absurd (eqb-false (q .kind) 1 f (sym (ap (λ (x : Entry). x .kind) p) ∙ k))
+    go false f ih (inr z) = ih z
+
 -- "all pairs of station numbers whose chosen code agrees on its first m bytes"
 pub all-pairs : (c : Choice) (x y : Book) (s t : ℕ) → In (s, t) (joinOf c x y) ↔ Agree c x y s t
 all-pairs c x y s t = (listed, agreed)
   where
     listed : In (s, t) (joinOf c x y) → Agree c x y s t
     listed d =
-        let w = found c (limitsOf x y) (x .records) (y .records) s t d in
+        let w = found c (limitsOf x y) (standing (x .records)) (standing (y .records)) s t d in
+        let u = live-one (x .records) (w .1 .r) (w .1 .among) in
+        let v = live-one (y .records) (w .2 .r) (w .2 .among) in
         record {
-          first = w .1 .r;
-          second = w .2 .r;
-          in-first = w .1 .among;
-          in-second = w .2 .among;
-          left = w .1 .station;
-          right = w .2 .station;
-          codes = sym (w .1 .key) ∙ w .2 .key;
+          first = u .e;
+          second = v .e;
+          in-first = u .among;
+          in-second = v .among;
+          live-first = u .kind;
+          live-second = v .kind;
+          left = w .1 .station ∙ ap (λ (r : Record). r .station) (u .body);
+          right = w .2 .station ∙ ap (λ (r : Record). r .station) (v .body);
+          codes =
+              sym (ap (λ (r : Record). clip (limitsOf x y) (chosenCode c r)) (u .body)) ∙ sym (w .1 .key) ∙ w .2 .key
+              ∙ ap (λ (r : Record). clip (limitsOf x y) (chosenCode c r)) (v .body);
         }
 
     agreed : Agree c x y s t → In (s, t) (joinOf c x y)
-    agreed a = rw (a .left, a .right) (shown c (limitsOf x y) (x .records) (y .records) (a .first) (a .second) (a .codes) (a .in-second) (a .in-first))
+    agreed a =
+        rw (a .left, a .right)
+        (shown c (limitsOf x y) (standing (x .records)) (standing (y .records)) (a .first .body) (a .second .body) (a .codes)
+        (stands (y .records) (a .second) (a .live-second) (a .in-second)) (stands (x .records) (a .first) (a .live-first) (a .in-first)))

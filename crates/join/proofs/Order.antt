@@ -3,18 +3,20 @@
 use Prim.Native.Nat.{ℕ, zero, suc, _≤_, _<_}
 use mathlib.Core.Path.{_≡_, ap, subst, _∙_}
 use mathlib.Core.Logic.{_⊎_, inl, inr}
-use mathlib.Core.List.{List}
+use mathlib.Core.Bool.{Bool, true, false, cond}
+use mathlib.Core.List.{List, [], _∷_}
 use native.Mathlib.Numerals.{add-one}
 use native.Mathlib.Omega.{arith}
 use lib.ListN.{length, getD}
 use Rattle.number.specs.Septets.{Bytes}
 use Rattle.encoder.specs.declared.Choice.{Choice}
 use Rattle.fields.specs.Got.{good}
-use Rattle.book.specs.Book.{Record, Book, readBook}
+use Rattle.book.specs.Book.{Entry, Book, above, readBook, isLive, live}
 use Rattle.book_laws.specs.Good as book
 use Rattle.book_laws.proofs.Good.{only-book}
 use Rattle.pairs.proofs.Order.{Rises, none, more, Rising, end, next, pairs-rise}
-use Rattle.sides.specs.Sides.{codedAll, joinOf, limitsOf}
+use Rattle.pairs.specs.Pairs.{Coded}
+use Rattle.sides.specs.Sides.{bodies, standing, codedAll, joinOf, limitsOf}
 use Rattle.join.specs.Order.{Before, InOrder, Once}
 
 -- ---- from a list that rises to places in it
@@ -44,14 +46,22 @@ differ p q (inl g) e = let z : p .0 ≡ q .0 = ap (λ (r : ℕ × ℕ). r .0) e 
 differ p q (inr g) e = let h = g .1 in let z : p .1 ≡ q .1 = ap (λ (r : ℕ × ℕ). r .1) e in omega arith
 
 -- ---- what a join sees of records that rise
-rises : (c : Choice) {floor : ℕ} {rs : List Record} → book.GoodRecords floor rs → Rises floor (codedAll c rs)
+lower : {s t : ℕ} {xs : List Coded} → s ≤ t → Rises t xs → Rises s xs
+lower h none = none
+lower {s} h (more {y = y} g r) = let k : s ≤ y .station = omega arith in more k r
+
+rises : (c : Choice) (format : ℕ) {floor : ℕ} (es : List Entry) → book.GoodRecords format floor es → Rises floor (codedAll c (standing es))
 unfolding codedAll
-rises c book.none = none
-rises c (book.more {r = r} {rs = rs} x xs) = more (x .rises) (subst (λ (k : ℕ). Rises k (codedAll c rs)) (add-one (r .station)) (rises c xs))
+rises c format [] book.none = none
+rises c format {floor} (e ∷ es) (book.more x xs) = go (isLive e) (rises c format es xs)
+  where
+    go : (t : Bool) → Rises (above e) (codedAll c (standing es)) → Rises floor (codedAll c (bodies (cond t (e ∷ live es) (live es))))
+    go true ih = more (x .body .rises) (subst (λ (k : ℕ). Rises k (codedAll c (standing es))) (add-one (e .body .station)) ih)
+    go false ih = lower (omega (arith, x .body .rises)) ih
 
 module _ (c : Choice) (l k : List ℕ) (bl : Bytes l) (bk : Bytes k) (x y : Book) (n j : ℕ) (e : readBook l ≡ good x n) (f : readBook k ≡ good y j) where
   pub join-rises : Rising 0 0 (joinOf c x y)
-  join-rises = pairs-rise (limitsOf x y) (rises c (only-book l bl x n e .records)) (rises c (only-book k bk y j f .records))
+  join-rises = pairs-rise (limitsOf x y) (rises c (x .header .format) (x .records) (only-book l bl x n e .records)) (rises c (y .header .format) (y .records) (only-book k bk y j f .records))
 
   -- "ordered by the first book's station, then the second's"
   pub in-order : InOrder (joinOf c x y)

@@ -1,4 +1,4 @@
--- Books whose stored codes are right for their names, and the records that encoding all names afresh gives: what the theorem of request L3
+-- Books whose live records' codes are right for their names, and the records that encoding all names afresh gives: what the theorem of request L3
 -- speaks of, `afresh` of proofs/Afresh.antt.
 use mathlib.Core.Path.{_≡_}
 use mathlib.Core.List.{List, [], _∷_}
@@ -11,6 +11,7 @@ use Rattle.encoder.specs.Chosen.{codeOf}
 use Rattle.book.specs.Book.{Record, Book}
 use Rattle.writer.specs.Made.{limitOf}
 use Rattle.pairs.specs.Pairs.{Coded}
+use Rattle.sides.specs.Sides.{standing}
 
 -- a record's codes are those of its name under an edition and a limit
 pub record RightUnder (ed : Edition) (l : Limit) (r : Record) : Type 0 where
@@ -24,9 +25,9 @@ AllRight ed l (r ∷ rs) = RightUnder ed l r × AllRight ed l rs
 abbrev pub editionIn : Book → Edition
 editionIn b = editionOf (b .header .edition)
 
--- a book whose codes are right under its own edition and cut
+-- a book whose live records' codes are right under its own edition and cut
 abbrev pub Right : Book → Type 0
-Right b = AllRight (editionIn b) (limitOf (b .header .cut)) (b .records)
+Right b = AllRight (editionIn b) (limitOf (b .header .cut)) (standing (b .records))
 
 -- what a join sees of records whose names are encoded now, whatever codes are stored
 unfoldable pub freshly : Edition → Limit → Choice → List Record → List Coded

@@ -5,7 +5,7 @@ use mathlib.Core.Logic.{_⊎_}
 use mathlib.Core.List.{List, List·Memᴰ}
 use lib.ListN.{length, getD}
 use Rattle.encoder.specs.declared.Choice.{Choice}
-use Rattle.book.specs.Book.{Record, Book}
+use Rattle.book.specs.Book.{Entry, Book}
 use Rattle.pairs.specs.Cut.{clip}
 use Rattle.sides.specs.Sides.{chosenCode, limitsOf}
 
@@ -25,12 +25,14 @@ Once ps = (i j : ℕ) → i < j → j < length ps → getD ps i (0, 0) ≡ getD 
 abbrev pub In : {A : Type 0} → A → List A → Type 0
 In a l = List·Memᴰ a l
 
--- some record of the first book with the station s, and some record of the second with t, whose chosen codes agree under m
+-- some live record of the first book with the station s, and some live record of the second with t, whose chosen codes agree under m
 pub record Agree (c : Choice) (x y : Book) (s t : ℕ) : Type 0 where
-  pub first : Record
-  pub second : Record
+  pub first : Entry
+  pub second : Entry
   pub in-first : In first (x .records)
   pub in-second : In second (y .records)
-  pub left : s ≡ first .station
-  pub right : t ≡ second .station
-  pub codes : clip (limitsOf x y) (chosenCode c first) ≡ clip (limitsOf x y) (chosenCode c second)
+  pub live-first : first .kind ≡ 1
+  pub live-second : second .kind ≡ 1
+  pub left : s ≡ first .body .station
+  pub right : t ≡ second .body .station
+  pub codes : clip (limitsOf x y) (chosenCode c (first .body)) ≡ clip (limitsOf x y) (chosenCode c (second .body))

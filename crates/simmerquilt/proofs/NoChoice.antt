@@ -20,6 +20,8 @@ use Rattle.simmerquilt.proofs.books.simmerquilt_book_read.Kinds as book
 use Rattle.simmerquilt.proofs.books.simmerquilt_book_read.Reads as book-read
 use Rattle.simmerquilt.proofs.books.simmerquilt_book_add.Kinds as book-add-kinds
 use Rattle.simmerquilt.proofs.books.simmerquilt_book_add.Reads as book-add
+use Rattle.simmerquilt.proofs.books.simmerquilt_book_close.Kinds as book-close-kinds
+use Rattle.simmerquilt.proofs.books.simmerquilt_book_close.Reads as book-close
 use Rattle.simmerquilt.proofs.books.simmerquilt_book_append.Kinds as book-append-kinds
 use Rattle.simmerquilt.proofs.books.simmerquilt_book_append.Reads as book-append
 use Rattle.simmerquilt.proofs.joins.simmerquilt_join_scratch.Kinds as join-scratch-kinds
@@ -71,7 +73,7 @@ module _ (κs : Lfts 2) (a : Dens κs book-open-kinds.ps) (x y : resT book-open-
   one-open-numbers p q = p ∙ sym q
 
 module _ (κs : Lfts 2) (a : Dens κs book-next-kinds.ps) (x y : resT book-next-kinds.r κs .Denot) (s t : AtExit (endedOf 2 book-next-kinds.ps book-next-kinds.r) κs) where
-  pub one-next-numbers : book-next.Post κs a x s → book-next.Post κs a y t → now (s .1 .1 .1 .0) ≡ now (t .1 .1 .1 .0)
+  pub one-next-numbers : book-next.Post κs a x s → book-next.Post κs a y t → now (s .1 .1 .1 .1 .1 .0) ≡ now (t .1 .1 .1 .1 .1 .0)
   one-next-numbers p q = p ∙ sym q
 
 module _ (κs : Lfts 2) (a : Dens κs book-read-kinds.ps) (x y : resT book-read-kinds.r κs .Denot) (s t : AtExit (endedOf 2 book-read-kinds.ps book-read-kinds.r) κs) where
@@ -84,6 +86,13 @@ module _ (κs : Lfts 3) (a : Dens κs book-add-kinds.ps) (x y : resT book-add-ki
 
   pub one-add-room : book-add.Post κs a x s → book-add.Post κs a y t → now (s .0) ≡ now (t .0)
   one-add-room p q = p .1 ∙ sym (q .1)
+
+module _ (κs : Lfts 2) (a : Dens κs book-close-kinds.ps) (x y : resT book-close-kinds.r κs .Denot) (s t : AtExit (endedOf 2 book-close-kinds.ps book-close-kinds.r) κs) where
+  pub one-close-numbers : book-close.Post κs a x s → book-close.Post κs a y t → now (s .1 .1 .1 .0) ≡ now (t .1 .1 .1 .0)
+  one-close-numbers p q = p .0 ∙ sym (q .0)
+
+  pub one-close-room : book-close.Post κs a x s → book-close.Post κs a y t → now (s .0) ≡ now (t .0)
+  one-close-room p q = p .1 ∙ sym (q .1)
 
 module _ (κs : Lfts 3) (a : Dens κs book-append-kinds.ps) (x y : resT book-append-kinds.r κs .Denot) (s t : AtExit (endedOf 3 book-append-kinds.ps book-append-kinds.r) κs) where
   pub one-append-numbers : book-append.Post κs a x s → book-append.Post κs a y t → now (s .1 .1 .1 .1 .1 .1 .1 .1 .0) ≡ now (t .1 .1 .1 .1 .1 .1 .1 .1 .0)

@@ -1,4 +1,5 @@
-// Prints a station key book that stands on standard input: a line for its header, one for each record, and one for how many there are.
+// Prints a station key book that stands on standard input: a line for its header, one for each record, and one for how many there are. A closed
+// record's line ends with the word, and the last line tells how many are closed.
 // A fault ends the print, and its number, behind `!`, begins the last line.
 use book::Cursor;
 use book::Header;
@@ -9,6 +10,7 @@ use libc::STDERR_FILENO;
 use libc::STDIN_FILENO;
 use libc::STDOUT_FILENO;
 ghost use mathlib.Core.Path.{_≡_};
+ghost use Prim.Native.Nat.{_≤_};
 ghost use lib.ListN.{length};
 
 // Each of these answers whether all was written. The first write that fails ends the print, and `main` tells of it.
@@ -37,8 +39,23 @@ fn put_header(h: Header) -> bool {
         && put(b"\n")
 }
 
+// What stands behind a record: nothing for a live one.
+fn put_kind(kind: u32) -> bool {
+    if kind == 1 {
+        return put(b"\n");
+    }
+    put(b"\tclosed\n")
+}
+
 // The bytes of a name and of the codes go out as they are.
-fn put_record(s: &[u8], station: u32, name: Span, primary: Span, alternate: Span) -> bool {
+fn put_record(
+    s: &[u8],
+    station: u32,
+    name: Span,
+    primary: Span,
+    alternate: Span,
+    kind: u32,
+) -> bool {
     put_number(station as u64)
         && put(b"\t")
         && put(fields::bytes_of(s, name))
@@ -46,14 +63,21 @@ fn put_record(s: &[u8], station: u32, name: Span, primary: Span, alternate: Span
         && put(fields::bytes_of(s, primary))
         && put(b"\t")
         && put(fields::bytes_of(s, alternate))
-        && put(b"\n")
+        && put_kind(kind)
 }
 
 fn put_count(n: u64) -> bool {
     if n == 1 {
-        return put(b"1 record\n");
+        return put(b"1 record");
     }
-    put_number(n) && put(b" records\n")
+    put_number(n) && put(b" records")
+}
+
+fn put_closed(n: u64) -> bool {
+    if n == 0 {
+        return put(b"\n");
+    }
+    put(b", ") && put_number(n) && put(b" closed\n")
 }
 
 fn put_fault(f: u8) -> bool {
@@ -61,15 +85,25 @@ fn put_fault(f: u8) -> bool {
 }
 
 fn put_fault_after(f: u8, count: u64) -> bool {
-    put_fault(f) && put(b" after ") && put_count(count)
+    put_fault(f) && put(b" after ") && put_count(count) && put(b"\n")
+}
+
+// 1 for a closed record, which is what a count of them grows by.
+fn closed_one(kind: u32) -> u64
+    ensures { λ r. ⌜ r ≤ 1 ⌝ }
+{
+    if kind == 1 { 0 } else { 1 }
 }
 
 // The records from a cursor on, to the end or to the first fault.
-fn put_records(s: &[u8], first: Cursor) -> bool {
+fn put_records(s: &[u8], header: Header, first: Cursor) -> bool {
+    let format = header.format;
+    let edition = header.edition;
     let mut cursor = first;
     let mut count: u64 = 0;
+    let mut closed: u64 = 0;
     loop {
-        let step = book::next(s, cursor);
+        let step = book::next(s, format, edition, cursor);
         match step {
             Step::Record {
                 station,
@@ -77,15 +111,17 @@ fn put_records(s: &[u8], first: Cursor) -> bool {
                 primary,
                 alternate,
                 next,
+                kind,
             } => {
-                if !put_record(s, station, name, primary, alternate) {
+                if !put_record(s, station, name, primary, alternate, kind) {
                     return false;
                 }
                 cursor = next;
                 count += 1;
+                closed += closed_one(kind);
             }
             Step::End => {
-                return put_count(count);
+                return put_count(count) && put_closed(closed);
             }
             Step::Fault(f) => {
                 return put_fault_after(f, count);
@@ -95,9 +131,9 @@ fn put_records(s: &[u8], first: Cursor) -> bool {
 }
 
 fn put_book(s: &[u8]) -> bool {
-    let opened = book::open(s);
+    let opened = book::open(s, 1);
     match opened {
-        Opened::Book { header, first } => put_header(header) && put_records(s, first),
+        Opened::Book { header, first } => put_header(header) && put_records(s, header, first),
         Opened::Fault(f) => put_fault(f) && put(b" in the header\n"),
     }
 }

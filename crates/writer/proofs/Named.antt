@@ -1,9 +1,10 @@
 -- What the encoder's answer to a name means for a new record: its faults 1 and 2, or its codes. Assumes nothing.
-use Prim.Native.Nat.{ℕ, _≤_}
-use mathlib.Core.Path.{_≡_, sym, ap, ap₂, _∙_}
+use Prim.Native.Nat.{ℕ, _+_, _≤_}
+use mathlib.Core.Path.{_≡_, sym, ap, ap₂, subst, _∙_}
 use mathlib.Core.List.{List}
 use native.Mathlib.Omega.{arith}
 use borrow.Author.Tests.{lt-ltb, le-ltb}
+use lib.Dec.{leb}
 use lib.ListN.{length}
 use Rattle.rules.specs.declared.Edition.{Edition}
 use Rattle.encoder.specs.declared.Limit.{Limit}
@@ -22,9 +23,10 @@ use Rattle.encoder.proofs.Codes.{primary-fits, alternate-fits}
 use Rattle.encoder.proofs.Room.{need-at-most}
 use Rattle.encoder.proofs.Part.{part-is}
 use Rattle.book.specs.declared.Header.{Header}
-use Rattle.book.specs.Book.{recordBytes}
+use Rattle.book.specs.Book.{entryBytes}
 use Rattle.writer.specs.declared.Made.{Made}
-use Rattle.writer.specs.Made.{limitOf, Placed, recordWith, codeUnder, keyed, stationFault, newFault, codeRoom}
+use Rattle.writer.specs.Made.{limitOf, Placed, entryWith, codeUnder, keyed, newBytes, stationFault, newFault, codeRoom}
+use Rattle.writer.specs.Ended.{floorWhere}
 
 -- a code of an accepted name has room
 pub code-fits : (ed : Edition) (l : Limit) (c : Choice) (w : List ℕ) → length w ≤ wordLimit → length (codeOf ed l c w) ≤ codeRoom
@@ -51,19 +53,27 @@ module _ {ed : Edition} {l : Limit} {w p a p′ a′ : List ℕ} {r : Answer} (e
 
 -- the codes that were made with the encoder x, under the header
 module _ {x : Encoder} {ed : Edition} {l : Limit} {w p a p′ a′ cp ca : List ℕ} {r : Answer} (h : Header) (made : x ≡ encoderOf ed l) (by : ed ≡ editionOf (h .edition)) (under : l ≡ limitOf (h .cut)) (e : Encoded (x .edition) (x .limit) w p a r p′ a′)
-    (np na n : ℕ) (q : r ≡ said.Coded np na n) (fp : cp ≡ chosenOf Primary p′ np a′ na) (fa : ca ≡ chosenOf Alternate p′ np a′ na) where
+    (np na n′ : ℕ) (q : r ≡ said.Coded np na n′) (fp : cp ≡ chosenOf Primary p′ np a′ na) (fa : ca ≡ chosenOf Alternate p′ np a′ na) where
   primary-is : cp ≡ codeUnder h Primary w
-  primary-is = part-is (made ∙ ap₂ encoderOf by under) e Primary np na n q fp
+  primary-is = part-is (made ∙ ap₂ encoderOf by under) e Primary np na n′ q fp
 
   alternate-is : ca ≡ codeUnder h Alternate w
-  alternate-is = part-is (made ∙ ap₂ encoderOf by under) e Alternate np na n q fa
+  alternate-is = part-is (made ∙ ap₂ encoderOf by under) e Alternate np na n′ q fa
 
   pub codes-fit : (length w ≤ wordLimit) × (length cp ≤ codeRoom) × (length ca ≤ codeRoom)
   codes-fit =
-      let s : length w ≤ wordLimit = short-name e np na n q in
+      let s : length w ≤ wordLimit = short-name e np na n′ q in
       (s, rw primary-is (code-fits _ _ Primary w s), rw alternate-is (code-fits _ _ Alternate w s))
 
-  pub coded-placed : (floor station : ℕ) (room : List ℕ) (len : ℕ) (m : Made) (room′ : List ℕ) → Placed (stationFault floor station) room len (recordBytes (recordWith station w cp ca)) m room′
-      → Placed (newFault floor station w) room len (recordBytes (keyed h station w)) m room′
-  unfolding keyed
-  coded-placed floor station room len m room′ y = rw (sym (name-taken e floor station np na n q), sym primary-is, sym alternate-is) y
+  codes-are : (station : ℕ) → entryBytes (h .format) (entryWith station w cp ca) ≡ newBytes h station w
+  unfolding newBytes keyed
+  codes-are station = λ i. entryBytes (h .format) (entryWith station w (primary-is i) (alternate-is i))
+
+  pub coded-placed : (floor station : ℕ) (room : List ℕ) (len : ℕ) (m : Made) (room′ : List ℕ)
+      → Placed (stationFault (floorWhere (leb (len + length (entryBytes (h .format) (entryWith station w cp ca))) (length room)) (h .format) floor) station) room len (entryBytes (h .format) (entryWith station w cp ca)) m room′
+      → Placed (newFault (floorWhere (leb (len + length (newBytes h station w)) (length room)) (h .format) floor) station w) room len (newBytes h station w) m room′
+  coded-placed floor station room len m room′ y =
+      let n : List ℕ = newBytes h station w in
+      let f : ℕ = floorWhere (leb (len + length n) (length room)) (h .format) floor in
+      subst (λ (g : ℕ). Placed g room len n m room′) (name-taken e f station np na n′ q)
+      (subst (λ (l : List ℕ). Placed (stationFault (floorWhere (leb (len + length l) (length room)) (h .format) floor) station) room len l m room′) (codes-are station) y)

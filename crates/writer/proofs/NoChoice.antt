@@ -11,10 +11,6 @@ use Rattle.writer.proofs.start.Kinds as start-kinds
 use Rattle.writer.proofs.start.Reads as start
 use Rattle.writer.proofs.append.Kinds as append-kinds
 use Rattle.writer.proofs.append.Reads as append
-use Rattle.writer.proofs.end_of.Kinds as end-of-kinds
-use Rattle.writer.proofs.end_of.Reads as end-of
-use Rattle.writer.proofs.add.Kinds as add-kinds
-use Rattle.writer.proofs.add.Reads as add
 use contract.Lifetimes.{Lfts}
 
 pub one-limit-of : OneResult limit-of-kinds.ps limit-of-kinds.r limit-of.Post
@@ -26,12 +22,6 @@ one-start κs a x y s t p q = p .answer ∙ sym (q .answer)
 pub one-append : OneResult append-kinds.ps append-kinds.r append.Post
 one-append κs a x y s t p q = p .answer ∙ sym (q .answer)
 
-pub one-end-of : OneResult end-of-kinds.ps end-of-kinds.r end-of.Post
-one-end-of κs a x y s t p q = p ∙ sym q
-
-pub one-add : OneResult add-kinds.ps add-kinds.r add.Post
-one-add κs a x y s t p q = p .answer ∙ sym (q .answer)
-
 -- the room at exit is the first
 module _ (κs : Lfts 1) (a : Dens κs start-kinds.ps) (x y : resT start-kinds.r κs .Denot) (s t : AtExit (endedOf 1 start-kinds.ps start-kinds.r) κs) where
   pub one-start-room : start.Post κs a x s → start.Post κs a y t → now (s .0) ≡ now (t .0)
@@ -40,7 +30,3 @@ module _ (κs : Lfts 1) (a : Dens κs start-kinds.ps) (x y : resT start-kinds.r 
 module _ (κs : Lfts 2) (a : Dens κs append-kinds.ps) (x y : resT append-kinds.r κs .Denot) (s t : AtExit (endedOf 2 append-kinds.ps append-kinds.r) κs) where
   pub one-append-room : append.Post κs a x s → append.Post κs a y t → now (s .0) ≡ now (t .0)
   one-append-room p q = p .leaves ∙ sym (q .leaves)
-
-module _ (κs : Lfts 2) (a : Dens κs add-kinds.ps) (x y : resT add-kinds.r κs .Denot) (s t : AtExit (endedOf 2 add-kinds.ps add-kinds.r) κs) where
-  pub one-add-room : add.Post κs a x s → add.Post κs a y t → now (s .0) ≡ now (t .0)
-  one-add-room p q = p .leaves ∙ sym (q .leaves)

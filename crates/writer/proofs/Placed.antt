@@ -14,11 +14,11 @@ use Rattle.encoder.specs.Numbers.{wordLimit}
 use Rattle.encoder.specs.Trim.{firstHigh}
 use Rattle.fields.specs.Field.{number, text}
 use Rattle.fields.specs.Put.{Put}
-use Rattle.fields.proofs.Put.{wide, put-then}
-use Rattle.book.specs.Book.{headerBytes, recordBytes}
+use Rattle.fields.proofs.Put.{wide, four, text-length, put-then}
+use Rattle.book.specs.Book.{headerBytes, recordBytes, kindBytes, entryBytes}
 use Rattle.writer.specs.declared.Made.{Made}
 use Rattle.writer.specs.declared.Made.the-variants.{Length, Fault}
-use Rattle.writer.specs.Made.{cutOf, limitOf, placed, left, Placed, newHeader, cutFault, stationFault, newFault, recordWith}
+use Rattle.writer.specs.Made.{cutOf, limitOf, placed, left, Placed, newHeader, cutFault, stationFault, newFault, recordWith, entryWith, codeRoom}
 
 -- ---- answers
 module _ (room : List ℕ) (at : ℕ) (bytes : List ℕ) where
@@ -38,16 +38,16 @@ module _ (room : List ℕ) (at : ℕ) (bytes : List ℕ) where
       record { answer = ap Length (p .next) ∙ sym n; leaves = p .leaves ∙ sym (ap (λ (m : Made). left m room at bytes) n) }
 
 -- ---- a new book
-pub header-is : (cut : ℕ) → headerBytes (newHeader cut) ≡ number 1 ++ (number 2 ++ number cut)
+pub header-is : (cut : ℕ) → headerBytes (newHeader cut) ≡ number 2 ++ (number 2 ++ number cut)
 unfolding headerBytes
 header-is cut = refl
 
-pub header-length : (cut a b c : ℕ) → a ≡ length (groups 4 1) → b ≡ length (groups 4 2) → c ≡ length (groups 4 cut) → length (headerBytes (newHeader cut)) ≡ a + b + c
+pub header-length : (cut a b c : ℕ) → a ≡ length (groups 4 2) → b ≡ length (groups 4 2) → c ≡ length (groups 4 cut) → length (headerBytes (newHeader cut)) ≡ a + b + c
 unfolding headerBytes
 header-length cut a b c e f g =
-    omega (arith, length-append (number 1) (number 2 ++ number cut), length-append (number 2) (number cut), wide 1 a e, wide 2 b f, wide cut c g)
+    omega (arith, length-append (number 2) (number 2 ++ number cut), length-append (number 2) (number cut), wide 2 a e, wide 2 b f, wide cut c g)
 
-pub begun : (cut : ℕ) (room : List ℕ) (r : ℕ) (room′ : List ℕ) → Put room 0 (number 1 ++ (number 2 ++ number cut)) r room′ → length (headerBytes (newHeader cut)) ≤ length room
+pub begun : (cut : ℕ) (room : List ℕ) (r : ℕ) (room′ : List ℕ) → Put room 0 (number 2 ++ (number 2 ++ number cut)) r room′ → length (headerBytes (newHeader cut)) ≤ length room
     → Placed 0 room 0 (headerBytes (newHeader cut)) (Length r) room′
 begun cut room r room′ p h = placed-good room 0 (headerBytes (newHeader cut)) 0 refl (omega arith) r room′ (rw (header-is cut) p)
 
@@ -77,6 +77,27 @@ module _ (s : ℕ) (n p a : List ℕ) where
   pub record-takes : (w tn tp ta : ℕ) → w ≡ length (groups 4 s) → tn ≡ length (text n) → tp ≡ length (text p) → ta ≡ length (text a)
       → w + tn + (tp + ta) ≡ length (recordBytes (recordWith s n p a))
   record-takes w tn tp ta e f g h = omega (arith, record-length, length-append (text p) (text a), wide s w e)
+
+-- ---- the bytes of a live record, with its kind
+module _ (format s : ℕ) (n p a : List ℕ) where
+  pub entry-bare : format ≡ 1 → entryBytes format (entryWith s n p a) ≡ recordBytes (recordWith s n p a)
+  unfolding entryBytes kindBytes
+  entry-bare e = rw e
+
+  pub entry-kind : (format ≡ 1 → ⊥) → entryBytes format (entryWith s n p a) ≡ number 1 ++ recordBytes (recordWith s n p a)
+  unfolding entryBytes kindBytes
+  entry-kind z = rw (ne-eqb format 1 z)
+
+  pub one-more : (format ≡ 1 → ⊥) → length (entryBytes format (entryWith s n p a)) ≡ length (recordBytes (recordWith s n p a)) + 1
+  unfolding number
+  one-more z = omega (arith, ap length (entry-kind z), length-append (number 1) (recordBytes (recordWith s n p a)))
+
+  pub record-small : length n ≤ wordLimit → length p ≤ codeRoom → length a ≤ codeRoom → length (recordBytes (recordWith s n p a)) < 2 ^ 28
+  record-small h k j =
+      omega (arith, record-length s n p a, length-append (text p) (text a), text-length n, text-length p, text-length a, four s, four (length n), four (length p), four (length a))
+
+pub put-as : {out : List ℕ} {at : ℕ} {x y : List ℕ} {r : ℕ} {out′ : List ℕ} → y ≡ x → Put out at x r out′ → Put out at y r out′
+put-as e p = rw e p
 
 module _ (floor station : ℕ) where
   pub too-large : 2 ^ 28 ≤ station → 5 ≡ stationFault floor station

@@ -18,7 +18,7 @@ use Rattle.encoder.specs.Chosen.{codeOf}
 use Rattle.writer.specs.declared.Made.{Made}
 use Rattle.writer.specs.declared.Made.the-variants.{Length, Fault}
 use Rattle.book.specs.declared.Header.{Header}
-use Rattle.book.specs.Book.{Record}
+use Rattle.book.specs.Book.{Record, Entry, entryBytes, lastFormat}
 
 -- the cut: 0 for none, else the limit plus 1
 abbrev pub cutOf : Limit → ℕ
@@ -45,7 +45,7 @@ pub record Placed (fault : ℕ) (room : List ℕ) (at : ℕ) (bytes : List ℕ) 
 
 -- ---- a new book
 abbrev pub newHeader : ℕ → Header
-newHeader cut = record { format = 1; edition = 2; cut = cut }
+newHeader cut = record { format = lastFormat; edition = 2; cut = cut }
 
 abbrev pub cutFault : ℕ → ℕ
 cutFault cut = cond (ltb cut (2 ^ 28)) 0 5
@@ -59,6 +59,16 @@ codeUnder h c name = codeOf (editionOf (h .edition)) (limitOf (h .cut)) c name
 
 unfoldable pub keyed : Header → ℕ → List ℕ → Record
 keyed h station name = recordWith station name (codeUnder h Primary name) (codeUnder h Alternate name)
+
+-- a new record is live
+abbrev pub entryWith : ℕ → List ℕ → List ℕ → List ℕ → Entry
+entryWith station name primary alternate = record { kind = 1; body = recordWith station name primary alternate }
+
+abbrev pub keyedEntry : Header → ℕ → List ℕ → Entry
+keyedEntry h station name = record { kind = 1; body = keyed h station name }
+
+unfoldable pub newBytes : Header → ℕ → List ℕ → List ℕ
+newBytes h station name = entryBytes (h .format) (keyedEntry h station name)
 
 -- 5 and 8 of a station
 abbrev pub stationFault : ℕ → ℕ → ℕ

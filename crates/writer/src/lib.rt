@@ -1,19 +1,19 @@
-// The station key book, written in lent room: started, added to, and gone on with from a known good end. A fault is document 02's number, 9 that
-// the lent room is too short for the result; a refusal changes nothing.
+// The station key book, written in lent room: started, and gone on with from a known good end. A fault is document 02's number, 9 that the
+// lent room is too short for the result; a refusal changes nothing. crates/changing adds to a book that it reads first.
 ghost use mathlib.Core.Path.{_≡_};
 ghost use Prim.Native.Nat.{_+_, _^_, _≤_, _<_};
 ghost use mathlib.Core.List.{_++_};
+ghost use lib.Dec.{leb};
 ghost use lib.ListN.{length};
 ghost use Rattle.fields.specs.Field.{number, text};
 ghost use Rattle.fields.specs.Put.{Put};
-ghost use Rattle.book.specs.Book.{headerBytes, recordBytes};
+ghost use Rattle.book.specs.Book.{headerBytes, recordBytes, entryBytes};
 ghost use Rattle.encoder.specs.Numbers.{wordLimit};
-ghost use Rattle.writer.specs.Made.{cutOf, limitOf, Placed, newHeader, cutFault, recordWith, keyed, stationFault, newFault, codeRoom};
-ghost use Rattle.writer.specs.Ended.{readIn, endedIn, endFault, Appended, Added};
+ghost use Rattle.writer.specs.Made.{cutOf, limitOf, Placed, newHeader, cutFault, recordWith, entryWith, newBytes, stationFault, newFault, codeRoom};
+ghost use Rattle.writer.specs.Ended.{endFault, floorWhere, Appended};
 use book::EDITION;
 use book::FORMAT;
 use book::Header;
-use book::Whole;
 use encoder::Answer;
 use encoder::Choice;
 use encoder::Encoder;
@@ -131,10 +131,59 @@ fn record_size(station: u32, name: &[u8], primary: &[u8], alternate: &[u8]) -> u
     front + (fields::text_size(primary) + fields::text_size(alternate))
 }
 
+// How many bytes a live record takes, with its kind.
+pub fn entry_size(format: u32, station: u32, name: &[u8], primary: &[u8], alternate: &[u8]) -> usize
+    requires { ⌜ (length (now name) ≤ wordLimit) × (length (now primary) ≤ codeRoom) × (length (now alternate) ≤ codeRoom) ⌝ }
+    ensures { λ r. ⌜ r ≡ length (entryBytes format (entryWith station (now (name .entry)) (now (primary .entry)) (now (alternate .entry)))) ⌝ }
+{
+    let size = record_size(station, name, primary, alternate);
+    if format == 1 {
+        return size;
+    }
+    size + 1
+}
+
+// Puts a live record, with its kind.
+pub fn put_entry(
+    out: &mut [u8],
+    at: usize,
+    format: u32,
+    station: u32,
+    name: &[u8],
+    primary: &[u8],
+    alternate: &[u8],
+) -> usize
+    requires { ⌜
+        (station < 2 ^ 28) × (length (now name) < 2 ^ 28) × (length (now primary) < 2 ^ 28) × (length (now alternate) < 2 ^ 28)
+        × (at + length (entryBytes format (entryWith station (now name) (now primary) (now alternate))) ≤ length (now out)) ⌝ }
+    ensures { λ r. ⌜ Put (now (out .entry)) at (entryBytes format (entryWith station (now (name .entry)) (now (primary .entry)) (now (alternate .entry)))) r (now (out .exit)) ⌝ }
+{
+    if format == 1 {
+        return put_record(out, at, station, name, primary, alternate);
+    }
+    let body = fields::put_number(out, at, 1);
+    put_record(out, body, station, name, primary, alternate)
+}
+
+// The least station of a record behind an end. Where the record does not fit there, closed ones of a format 2 book may give room back: its
+// station is then for `add` to judge.
+fn floor_where(fits: bool, format: u32, floor: u32) -> u32
+    ensures { λ r. ⌜ r ≡ floorWhere fits format floor ⌝ }
+{
+    if fits {
+        return floor;
+    }
+    if format == 1 {
+        return floor;
+    }
+    0
+}
+
 // Adds a record whose codes are made.
 fn append_coded(
     room: &mut [u8],
     len: usize,
+    format: u32,
     floor: u32,
     station: u64,
     name: &[u8],
@@ -143,21 +192,26 @@ fn append_coded(
 ) -> Made
     requires { ⌜ (len ≤ length (now room)) × (length (now name) ≤ wordLimit) × (length (now primary) ≤ codeRoom) × (length (now alternate) ≤ codeRoom) ⌝ }
     ensures { λ r. ⌜
-        Placed (stationFault floor station) (now (room .entry)) len
-        (recordBytes (recordWith station (now (name .entry)) (now (primary .entry)) (now (alternate .entry)))) r (now (room .exit)) ⌝ }
+        Placed
+        (stationFault (floorWhere (leb (len + length (entryBytes format (entryWith station (now (name .entry)) (now (primary .entry)) (now (alternate .entry))))) (length (now (room .entry)))) format floor) station)
+        (now (room .entry)) len
+        (entryBytes format (entryWith station (now (name .entry)) (now (primary .entry)) (now (alternate .entry)))) r (now (room .exit)) ⌝ }
 {
     if LARGEST < station {
         return Made::Fault(5);
     }
     let number = station as u32;
-    if number < floor {
+    let size = entry_size(format, number, name, primary, alternate);
+    let fits = size <= room.len() - len;
+    if number < floor_where(fits, format, floor) {
         return Made::Fault(8);
     }
-    let size = record_size(number, name, primary, alternate);
-    if room.len() - len < size {
-        return Made::Fault(9);
+    if fits {
+        return Made::Length(put_entry(
+            room, len, format, number, name, primary, alternate,
+        ));
     }
-    Made::Length(put_record(room, len, number, name, primary, alternate))
+    Made::Fault(9)
 }
 
 // Adds a record to a book with this header and this least station.
@@ -171,8 +225,9 @@ fn append_under(
 ) -> Made
     requires { ⌜ len ≤ length (now room) ⌝ }
     ensures { λ r. ⌜
-        Placed (newFault floor station (now (name .entry))) (now (room .entry)) len
-        (recordBytes (keyed header station (now (name .entry)))) r (now (room .exit)) ⌝ }
+        Placed
+        (newFault (floorWhere (leb (len + length (newBytes header station (now (name .entry)))) (length (now (room .entry)))) (header .format) floor) station (now (name .entry)))
+        (now (room .entry)) len (newBytes header station (now (name .entry))) r (now (room .exit)) ⌝ }
 {
     let mut primary = [0u8; CODE_ROOM];
     let mut alternate = [0u8; CODE_ROOM];
@@ -186,6 +241,7 @@ fn append_under(
         } => append_coded(
             room,
             len,
+            header.format,
             floor,
             station,
             name,
@@ -204,18 +260,15 @@ fn end_fault(end: End, room: usize) -> u8
     ensures { λ r. ⌜ r ≡ endFault end room ⌝ }
 {
     let header = end.header;
-    let format = book::known_fault(header.format, FORMAT);
-    if format != 0 {
-        return format;
-    }
-    let edition = book::known_fault(header.edition, EDITION);
-    if edition != 0 {
-        return edition;
+    let fault = book::unknown_fault(header.format, header.edition);
+    if fault != 0 {
+        return fault;
     }
     if room < end.len { 6 } else { 0 }
 }
 
-// Adds a record behind a known good end, and gives the new end. The book before it is not read again.
+// Adds a record behind a known good end, and gives the new end. The book before it is not read again. Under a 9 it may still fit: `add` of
+// crates/changing closes the book up first.
 pub fn append(room: &mut [u8], end: End, station: u64, name: &[u8]) -> Ended
     ensures { λ r. ⌜ Appended (now (room .entry)) end station (now (name .entry)) r (now (room .exit)) ⌝ }
 {
@@ -232,43 +285,5 @@ pub fn append(room: &mut [u8], end: End, station: u64, name: &[u8]) -> Ended
             floor: station as u32 + 1,
         }),
         Made::Fault(f) => Ended::Fault(f),
-    }
-}
-
-// The end of the book in the first `len` bytes of the room, which are read. A stated length beyond the room is a short book.
-pub fn end_of(room: &[u8], len: usize) -> Ended
-    ensures { λ r. ⌜ r ≡ endedIn len (readIn (now (room .entry)) len) ⌝ }
-{
-    let there = fields::least(len, room.len());
-    let whole = book::read(&room[..there]);
-    match whole {
-        Whole::Book {
-            header,
-            records: _,
-            floor,
-        } => {
-            if room.len() < len {
-                return Ended::Fault(6);
-            }
-            Ended::At(End { header, len, floor })
-        }
-        Whole::Fault(f) => Ended::Fault(f),
-    }
-}
-
-// Adds a record to the book in the first `len` bytes of the room, which are read first.
-pub fn add(room: &mut [u8], len: usize, station: u64, name: &[u8]) -> Made
-    ensures { λ r. ⌜ Added (now (room .entry)) len station (now (name .entry)) r (now (room .exit)) ⌝ }
-{
-    let found = end_of(room, len);
-    match found {
-        Ended::At(end) => {
-            let grown = append(room, end, station, name);
-            match grown {
-                Ended::At(next) => Made::Length(next.len),
-                Ended::Fault(f) => Made::Fault(f),
-            }
-        }
-        Ended::Fault(f) => Made::Fault(f),
     }
 }

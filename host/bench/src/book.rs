@@ -209,7 +209,7 @@ fn appended(list: &List, room: usize) -> Vec<u8> {
     room
 }
 
-fn grown(list: &List) -> Book {
+pub fn grown(list: &List) -> Book {
     let mut book = Book::new(Some(LIMIT as u64)).expect("a small limit");
     for (station, name) in list {
         book.add(*station, name).expect("a good record");

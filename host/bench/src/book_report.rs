@@ -35,7 +35,7 @@ fn writing(rows: &[Writing]) -> String {
 }
 
 /// What a record costs in the longest book, as a multiple of what it costs in the shortest.
-fn growth<T>(rows: &[T], cost: impl Fn(&T) -> Option<f64>) -> String {
+pub fn growth<T>(rows: &[T], cost: impl Fn(&T) -> Option<f64>) -> String {
     let costs: Vec<f64> = rows.iter().filter_map(cost).collect();
     let (Some(first), Some(last)) = (costs.first(), costs.last()) else { return "none".to_string() };
     format!("{:.1}", last / first)
@@ -46,10 +46,10 @@ pub fn section(rows: &Rows) -> String {
     format!(
         "## The station key book
 
-Nanoseconds a record, in new books, which carry edition 2, of gauge names under limit {LIMIT}, beside a plain reader and writer in Rust \
-(host/plain), whose codes are those of the crate's copy that reads as edition 2 does and counts its visits. All take turns in one \
-run; a number is the median of {ROUNDS} rounds, of {SLOW_ROUNDS} for adding 10,000 records. A ratio is that of the plain one's time to \
-the library's.
+Nanoseconds a record, in new books, which carry format 2 and edition 2, without closed records, of gauge names under limit {LIMIT}, \
+beside a plain reader and writer in Rust (host/plain), whose codes are those of the crate's copy that reads as edition 2 does and counts \
+its visits. All take turns in one run; a number is the median of {ROUNDS} rounds, of {SLOW_ROUNDS} for adding 10,000 records. A ratio is \
+that of the plain one's time to the library's.
 
 Reading a whole book (read), and going through its records one by one (cursor):
 

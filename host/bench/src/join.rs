@@ -1,23 +1,19 @@
 //! The join of two books beside SQLite, which joins the same codes in memory.
 use crate::measure::median;
 use crate::sqlite::Database;
+use crate::stations::{List, Lists, FEW_PAIRS, GAUGES, MANY_STATIONS};
 use simmerquilt::join::{count_in, join_in, scratch_words};
 use simmerquilt::{Book, Choice, Pair};
 use std::time::Instant;
-use words::{gauges, respelt, Rng};
 
 /// How many records a book has, and the rounds that a number is then the median of.
 pub const SIZES: [(usize, usize); 4] = [(1_000, 51), (10_000, 21), (100_000, 5), (1_000_000, 3)];
 
 /// What two books are made of.
 pub struct Setting {
-    pub name: &'static str,
+    pub lists: Lists,
     pub limits: [Option<u64>; 2],
     sizes: &'static [(usize, usize)],
-    /// The names of a list's gauges.
-    names: fn(&mut Rng, usize) -> Vec<String>,
-    /// How many stations a gauge has in a list, each in its own spelling.
-    stations: usize,
     /// Whether the wanted speed is asked of it.
     pub wanted: bool,
 }
@@ -26,30 +22,9 @@ pub struct Setting {
 /// that there would be a thousand million pairs. Then lists with about forty pairs a record at every size, as four bytes leave them in
 /// lists of forty thousand; and lists in which nearly each gauge has a key of its own, which are told and not asked anything.
 pub const SETTINGS: [Setting; 3] = [
-    Setting {
-        name: "gauges",
-        limits: [Some(4), Some(6)],
-        sizes: SIZES.split_at(3).0,
-        names: gauges,
-        stations: 1,
-        wanted: true,
-    },
-    Setting {
-        name: "places, 80 stations each",
-        limits: [Some(12), None],
-        sizes: &SIZES,
-        names: at_places,
-        stations: 80,
-        wanted: true,
-    },
-    Setting {
-        name: "places, few pairs",
-        limits: [Some(12), None],
-        sizes: &SIZES,
-        names: at_places,
-        stations: 1,
-        wanted: false,
-    },
+    Setting { lists: GAUGES, limits: [Some(4), Some(6)], sizes: SIZES.split_at(3).0, wanted: true },
+    Setting { lists: MANY_STATIONS, limits: [Some(12), None], sizes: &SIZES, wanted: true },
+    Setting { lists: FEW_PAIRS, limits: [Some(12), None], sizes: &SIZES, wanted: false },
 ];
 
 impl Setting {
@@ -92,48 +67,18 @@ pub fn measure() -> Option<Rows> {
     Some(Rows { version, rows })
 }
 
-/// Gauges with the place where each stands.
-fn at_places(rng: &mut Rng, count: usize) -> Vec<String> {
-    let rivers = gauges(rng, count);
-    rivers.into_iter().zip(gauges(rng, count)).map(|(river, place)| format!("{river} at {place}")).collect()
-}
-
-/// All stations of these gauges, in mixed order.
-fn stations(rng: &mut Rng, setting: &Setting, gauges: &[String]) -> Vec<String> {
-    let mut names: Vec<String> =
-        gauges.iter().flat_map(|name| vec![name; setting.stations]).map(|name| respelt(rng, name)).collect();
-    rng.shuffle(&mut names);
-    names
-}
-
-/// Two lists of names. The second has half of the first's gauges and as many of its own.
-fn lists(setting: &Setting, records: usize) -> [Vec<String>; 2] {
-    let rng = &mut Rng::new(3, 0);
-    let ours = (setting.names)(rng, records.div_ceil(setting.stations));
-    let mut theirs = (setting.names)(rng, ours.len());
-    theirs.iter_mut().zip(&ours).step_by(2).for_each(|(theirs, ours)| theirs.clone_from(ours));
-    [ours, theirs].map(|gauges| {
-        let mut names = stations(rng, setting, &gauges);
-        names.truncate(records);
-        names
-    })
-}
-
-/// A new book of names under rising stations.
-fn book(limit: Option<u64>, names: &[String], rng: &mut Rng) -> Book {
+/// A new book of a list.
+fn book(limit: Option<u64>, list: &List) -> Book {
     let mut book = Book::new(limit).expect("a small limit");
-    let mut station = 0;
-    for name in names {
-        station += 1 + rng.below(200) as u64;
-        book.add(station, name).expect("a good record");
+    for (station, name) in list {
+        book.add(*station, name).expect("a good record");
     }
     book
 }
 
 fn measure_one(setting: &'static Setting, records: usize, rounds: usize) -> Option<Row> {
-    let rng = &mut Rng::new(4, 0);
-    let lists = lists(setting, records);
-    let [first, second] = [0, 1].map(|which| book(setting.limits[which], &lists[which], rng));
+    let lists = setting.lists.two(records);
+    let [first, second] = [0, 1].map(|which| book(setting.limits[which], &lists[which]));
     let sqlite = Sqlite::new(&first, &second, setting.least())?;
     let index = median((0..rounds).map(|_| seconds(|| sqlite.index(), || sqlite.forget())).collect());
     sqlite.index();

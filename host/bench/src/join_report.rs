@@ -37,7 +37,7 @@ fn table(rows: &[Row]) -> String {
     for row in rows {
         text += &format!(
             "| {} | {} | {} | {} | {} s | {} s | {} s | {:.1} | {:.0} |\n",
-            row.setting.name,
+            row.setting.lists.name,
             cuts(row),
             row.records,
             row.pairs,
@@ -56,7 +56,7 @@ fn targets(rows: &[Row]) -> String {
     let missed: Vec<String> = rows
         .iter()
         .filter(|row| row.setting.wanted && row.records >= FROM && row.ratio < TIMES)
-        .map(|row| format!("{}, {} records: {:.1}", row.setting.name, row.records, row.ratio))
+        .map(|row| format!("{}, {} records: {:.1}", row.setting.lists.name, row.records, row.ratio))
         .collect();
     if missed.is_empty() {
         format!("From {FROM} records on the first two joins are at least the wanted {TIMES:.0} times as fast as SQLite's query with its index ready.")
@@ -68,10 +68,10 @@ fn targets(rows: &[Row]) -> String {
 /// Of each setting, what the join of the longest books costs for each record and pair, as a multiple of what that of the shortest costs.
 fn growth(rows: &[Row]) -> String {
     let of_setting = |name: &str| {
-        let costs: Vec<f64> = rows.iter().filter(|row| row.setting.name == name).map(each).collect();
+        let costs: Vec<f64> = rows.iter().filter(|row| row.setting.lists.name == name).map(each).collect();
         costs.first().zip(costs.last()).map(|(first, last)| format!("{:.1} ({name})", last / first))
     };
-    SETTINGS.iter().filter_map(|setting| of_setting(setting.name)).collect::<Vec<_>>().join(", ")
+    SETTINGS.iter().filter_map(|setting| of_setting(setting.lists.name)).collect::<Vec<_>>().join(", ")
 }
 
 fn rounds() -> String {

@@ -1,14 +1,17 @@
 //! Times the proved port beside the unchanged Rust, in turns over the same words, the listing beside the encoder, the station key book
-//! beside a plain reader and writer, and the join beside SQLite; prints the tables and writes docs/BENCHMARKS.md. With the word `join` it
-//! times the join alone and writes nothing.
+//! beside a plain reader and writer, closing up a book beside reading it, and the join beside SQLite; prints the tables and writes
+//! docs/BENCHMARKS.md. With the word `close` or `join` it times closing up or the join alone and writes nothing.
 mod book;
 mod book_report;
+mod close;
+mod close_report;
 mod join;
 mod join_report;
 mod listing;
 mod measure;
 mod report;
 mod sqlite;
+mod stations;
 
 use measure::{measure, spent, Row};
 use oracle::{Oracle, NOT_AT_HAND};
@@ -18,14 +21,20 @@ use std::io;
 use std::path::Path;
 use words::{lists, LIMITS};
 
+fn closing() -> String {
+    close_report::section(&close::measure())
+}
+
 fn joins() -> String {
     join_report::section(join::measure().as_ref())
 }
 
 fn main() -> io::Result<()> {
-    if env::args().skip(1).eq(["join"]) {
-        println!("{}", joins());
-        return Ok(());
+    for (word, section) in [("close", closing as fn() -> String), ("join", joins)] {
+        if env::args().skip(1).eq([word]) {
+            println!("{}", section());
+            return Ok(());
+        }
     }
     let Some(oracle) = Oracle::at_hand() else {
         println!("bench: NOT RUN, there is nothing to time the port beside: {NOT_AT_HAND}");
@@ -41,12 +50,16 @@ fn main() -> io::Result<()> {
     let (gauges, middling, long) = (&lists[0].1, &lists[2].1, &lists[4].1);
     let spent = spent(middling, long);
     println!("{}\n{}\n\n{}\n", report::table(&rows), report::targets(&rows), report::spent(&spent));
-    let listing = listing::section(&lists, &LIMITS);
-    println!("{listing}");
-    let books = book_report::section(&book::measure(&oracle));
-    println!("{books}");
-    let joins = joins();
-    println!("{joins}");
+    let told = |section: String| {
+        println!("{section}");
+        section
+    };
+    let sections = [
+        told(listing::section(&lists, &LIMITS)),
+        told(book_report::section(&book::measure(&oracle))),
+        told(closing()),
+        told(joins()),
+    ];
     let page = Path::new(env!("CARGO_MANIFEST_DIR")).join("../../docs/BENCHMARKS.md");
-    fs::write(page, report::page(&rows, gauges, &spent, &listing, &books, &joins))
+    fs::write(page, report::page(&rows, gauges, &spent, &sections))
 }

@@ -86,7 +86,7 @@ take {:.0} ns on a word of 1,024 bytes, most of what such a word costs under lim
     )
 }
 
-pub fn page(rows: &[Row], gauges: &[String], time: &Spent, listing: &str, books: &str, joins: &str) -> String {
+pub fn page(rows: &[Row], gauges: &[String], time: &Spent, sections: &[String]) -> String {
     let cores = thread::available_parallelism().map_or(1, usize::from);
     let bytes: usize = gauges.iter().map(String::len).sum();
     format!(
@@ -106,9 +106,7 @@ The gauge names are {} lines of {:.1} bytes on average. Words of a given length 
 
 {}
 
-{listing}
-{books}
-{joins}
+{}
 Measured on {cores} cores, {ARCH}, {OS}, by this command in host/, which writes this page:
 
     cargo run --offline --release -p bench
@@ -118,5 +116,6 @@ Measured on {cores} cores, {ARCH}, {OS}, by this command in host/, which writes 
         table(rows),
         targets(rows),
         spent(time),
+        sections.join("\n"),
     )
 }

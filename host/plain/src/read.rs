@@ -1,4 +1,4 @@
-use crate::{Fault, BAD_NUMBER, CUT_SHORT, EDITIONS, NAME_LIMIT, NOT_ASCII, NOT_RISING, TOO_LONG, UNKNOWN};
+use crate::{Fault, BAD_NUMBER, CUT_SHORT, EDITIONS, FORMATS, NAME_LIMIT, NOT_ASCII, NOT_RISING, TOO_LONG, UNKNOWN};
 
 /// What stands in front of the records.
 #[derive(Clone, Copy, Debug, PartialEq, Eq)]
@@ -13,11 +13,22 @@ impl Header {
     pub fn limit(&self) -> Option<u64> {
         u64::from(self.cut).checked_sub(1)
     }
+
+    /// A header that is told, and not read, may be of any format and edition.
+    pub fn known(&self) -> Result<(), Fault> {
+        if FORMATS.contains(&self.format) && EDITIONS.contains(&self.edition) {
+            Ok(())
+        } else {
+            Err(UNKNOWN)
+        }
+    }
 }
 
 /// One station, as it lies in the book.
 #[derive(Clone, Copy, Debug, PartialEq, Eq)]
 pub struct Record<'a> {
+    /// Whether it is not closed; in format 1 all are live.
+    pub live: bool,
     pub station: u32,
     pub name: &'a [u8],
     pub primary: &'a [u8],
@@ -27,6 +38,7 @@ pub struct Record<'a> {
 /// Goes through a book from byte to byte and stops at the first fault.
 pub struct Reader<'a> {
     book: &'a [u8],
+    format: u32,
     place: usize,
     before: Option<u32>,
 }
@@ -34,15 +46,17 @@ pub struct Reader<'a> {
 impl<'a> Reader<'a> {
     /// Reads the header; the records are still to come.
     pub fn open(book: &'a [u8]) -> Result<(Header, Self), Fault> {
-        let mut reader = Reader::at(book, 0, None);
-        let (format, edition) = (reader.known(&[1])?, reader.known(&EDITIONS)?);
+        let mut reader = Reader { book, format: 0, place: 0, before: None };
+        let (format, edition) = (reader.known(&FORMATS)?, reader.known(&EDITIONS)?);
         let header = Header { format, edition, cut: reader.number()? };
+        reader.format = format;
         Ok((header, reader))
     }
 
-    /// Begins at a place, where the record before has the given station.
-    pub fn at(book: &'a [u8], place: usize, before: Option<u32>) -> Self {
-        Reader { book, place, before }
+    /// Begins at a place of a book whose header is told, where the record before has the given station.
+    pub fn at(book: &'a [u8], header: Header, place: usize, before: Option<u32>) -> Result<Self, Fault> {
+        header.known()?;
+        Ok(Reader { book, format: header.format, place, before })
     }
 
     /// Where the next record begins.
@@ -75,7 +89,7 @@ impl<'a> Reader<'a> {
         Err(BAD_NUMBER)
     }
 
-    /// Format and edition: a number that is known.
+    /// Format, edition and kind: a number that is known.
     fn known(&mut self, known: &[u32]) -> Result<u32, Fault> {
         let number = self.number()?;
         if known.contains(&number) {
@@ -90,6 +104,10 @@ impl<'a> Reader<'a> {
         let text = rest.get(..length as usize).ok_or(CUT_SHORT)?;
         self.place += text.len();
         Ok(text)
+    }
+
+    fn live(&mut self) -> Result<bool, Fault> {
+        Ok(self.format == 1 || self.known(&[0, 1])? == 1)
     }
 
     fn station(&mut self) -> Result<u32, Fault> {
@@ -120,8 +138,8 @@ impl<'a> Reader<'a> {
     }
 
     fn record(&mut self) -> Result<Record<'a>, Fault> {
-        let station = self.station()?;
-        let record = Record { station, name: self.name()?, primary: self.code()?, alternate: self.code()? };
+        let (live, station) = (self.live()?, self.station()?);
+        let record = Record { live, station, name: self.name()?, primary: self.code()?, alternate: self.code()? };
         self.before = Some(station);
         Ok(record)
     }

@@ -1,6 +1,8 @@
 //! Books written out byte by byte from document 02's words.
 use super::*;
 
+mod closing;
+
 /// No encoder is needed to tell how a book is laid out. Under edition 2 there is an alternate code, so that the editions differ.
 fn codes(name: &[u8], header: Header) -> (Vec<u8>, Vec<u8>) {
     let length = header.limit().map_or(name.len(), |limit| name.len().min(limit as usize));
@@ -29,33 +31,34 @@ fn numbers_are_groups_of_seven_bits() {
 
 #[test]
 fn a_book_is_a_header_and_records() {
-    let mut writer = Writer::in_edition(1, Some(4)).unwrap();
+    let mut writer = Writer::of(1, 1, Some(4)).unwrap();
     writer.push(7, b"ab", codes).unwrap();
     writer.push(300, b"", codes).unwrap();
     assert_eq!(writer.as_bytes(), b"\x01\x01\x05\x07\x02ab\x02AB\x00\xac\x02\x00\x00\x00");
     let (header, records) = read(writer.as_bytes()).unwrap();
     assert_eq!(header, Header { format: 1, edition: 1, cut: 5 });
     assert_eq!(header.limit(), Some(4));
-    assert_eq!(records[0], Record { station: 7, name: b"ab", primary: b"AB", alternate: b"" });
-    assert_eq!(records[1], Record { station: 300, name: b"", primary: b"", alternate: b"" });
+    assert_eq!(records[0], Record { live: true, station: 7, name: b"ab", primary: b"AB", alternate: b"" });
+    assert_eq!(records[1], Record { live: true, station: 300, name: b"", primary: b"", alternate: b"" });
 }
 
 #[test]
-fn a_new_book_carries_the_newest_edition() {
+fn a_new_book_carries_the_newest_format_and_edition() {
     let mut writer = Writer::new(Some(4)).unwrap();
     writer.push(7, b"ab", codes).unwrap();
-    assert_eq!(writer.as_bytes(), b"\x01\x02\x05\x07\x02ab\x02AB\x010");
-    assert_eq!(read(writer.as_bytes()).unwrap().0, Header { format: 1, edition: 2, cut: 5 });
-    for edition in [0, 3, u32::MAX] {
-        assert_eq!(Writer::in_edition(edition, Some(u64::MAX)).unwrap_err(), UNKNOWN);
+    assert_eq!(writer.as_bytes(), b"\x02\x02\x05\x01\x07\x02ab\x02AB\x010");
+    assert_eq!(read(writer.as_bytes()).unwrap().0, Header { format: 2, edition: 2, cut: 5 });
+    for number in [0, 3, u32::MAX] {
+        assert_eq!(Writer::of(number, 1, Some(u64::MAX)).unwrap_err(), UNKNOWN);
+        assert_eq!(Writer::of(1, number, Some(u64::MAX)).unwrap_err(), UNKNOWN);
     }
 }
 
 #[test]
 fn cuts_and_limits() {
-    assert_eq!(Writer::new(None).unwrap().into_bytes(), [1, 2, 0]);
-    assert_eq!(Writer::new(Some(0)).unwrap().into_bytes(), [1, 2, 1]);
-    assert_eq!(Writer::new(Some(NUMBER_END - 2)).unwrap().into_bytes(), [1, 2, 255, 255, 255, 127]);
+    assert_eq!(Writer::new(None).unwrap().into_bytes(), [2, 2, 0]);
+    assert_eq!(Writer::new(Some(0)).unwrap().into_bytes(), [2, 2, 1]);
+    assert_eq!(Writer::new(Some(NUMBER_END - 2)).unwrap().into_bytes(), [2, 2, 255, 255, 255, 127]);
     for limit in [NUMBER_END - 1, NUMBER_END, u64::MAX] {
         assert_eq!(Writer::new(Some(limit)).unwrap_err(), BAD_NUMBER);
     }
@@ -67,7 +70,8 @@ fn each_fault_is_met_at_its_byte() {
         (&[], 6),
         (&[1, 1], 6),
         (&[129, 0], 5),
-        (&[2], 7),
+        (&[2], 6),
+        (&[3], 7),
         (&[130, 1], 7),
         (&[0, 1, 0], 7),
         (&[1, 0], 7),
@@ -94,6 +98,19 @@ fn each_fault_is_met_at_its_byte() {
         // A high byte in a code.
         (&[1, 1, 0, 1, 0, 1, 200, 0], 0),
         (&[1, 1, 0, 1, 0, 2, 200], 6),
+        // In format 2 a kind stands first: its form is judged before its value, and its value before the station.
+        (&[2, 1, 0], 0),
+        (&[2, 2, 0, 1], 6),
+        (&[2, 2, 0, 1, 7, 0, 0, 0], 0),
+        (&[2, 2, 0, 0, 7, 0, 0, 0], 0),
+        (&[2, 2, 0, 2], 7),
+        (&[2, 2, 0, 129, 0], 5),
+        (&[2, 2, 0, 129, 1], 7),
+        (&[2, 2, 0, 129], 6),
+        // The order of stations covers closed records too.
+        (&[2, 2, 0, 0, 7, 0, 0, 0, 1, 7], 8),
+        (&[2, 2, 0, 0, 7, 0, 0, 0, 2, 7], 7),
+        (&[2, 2, 0, 1, 7, 0, 0, 0, 0, 8, 0, 0, 0], 0),
     ];
     for (book, expected) in cases {
         assert_eq!(fault(book), *expected, "{book:?}");
@@ -172,7 +189,7 @@ fn a_join_is_of_one_edition() {
 #[test]
 fn a_join_reads_the_first_book_first() {
     let good = [1, 1, 0];
-    assert_eq!(join(&[2], &[1], false), Err(7));
+    assert_eq!(join(&[3], &[1], false), Err(7));
     assert_eq!(join(&good, &[1], false), Err(6));
     assert_eq!(join(&[1], &good, false), Err(6));
 }

@@ -3,14 +3,18 @@
 //! A new book carries edition 2. A stored book of edition 1 is read and added to under edition 1, so that all codes of a book are made
 //! alike; books of different editions are not joined.
 //!
-//! [`Book`] keeps its bytes itself. The functions are for those who keep their own room; they are the library's six calls and allocate
+//! A new book carries format 2, in which a station can be closed: its record stays, is read as [`Kind::Closed`] and joined no more, and
+//! gives its room back once that is needed. A stored book of format 1 is read as all live and added to in format 1; none of its stations
+//! closes.
+//!
+//! [`Book`] keeps its bytes itself. The functions are for those who keep their own room; they are the library's seven calls and allocate
 //! nothing.
 mod file;
 mod lent;
 mod refusal;
 
-pub use lent::{add_in, append_in, next, open, read, start_in};
-pub use lent::{Cursor, End, Header, Record, Whole, HEADER_ROOM, RECORD_ROOM, STATION_END};
+pub use lent::{add_in, append_in, close_in, next, open, read, start_in};
+pub use lent::{Cursor, End, Header, Kind, Record, Whole, HEADER_ROOM, RECORD_ROOM, STATION_END};
 pub use refusal::BookRefusal;
 
 use std::fmt::{self, Debug, Formatter};
@@ -19,7 +23,7 @@ use std::io::{self, ErrorKind};
 use std::iter::FusedIterator;
 use std::path::Path;
 
-/// A good book in memory. Records are added from its known end, so that adding does not read it again.
+/// A good book in memory. Records are added from its known end, so that adding does not read it again, but where it is closed up.
 ///
 /// ```
 /// use simmerquilt::{Book, BookRefusal};
@@ -41,11 +45,12 @@ pub struct Book {
     header: Header,
     end: End,
     records: usize,
+    live: usize,
 }
 
 impl Book {
-    /// A book of edition 2 without records, whose codes will have at most `limit` bytes: [`BookRefusal::BadNumber`] for a limit that the
-    /// header cannot hold.
+    /// A book of format 2 and edition 2 without records, whose codes will have at most `limit` bytes: [`BookRefusal::BadNumber`] for a
+    /// limit that the header cannot hold.
     pub fn new(limit: Option<u64>) -> Result<Book, BookRefusal> {
         let mut room = vec![0; HEADER_ROOM];
         let length = start_in(&mut room, limit)?;
@@ -53,7 +58,7 @@ impl Book {
         Book::from_bytes(room)
     }
 
-    /// The book that these bytes are, of either edition, or the fault that is met first in them.
+    /// The book that these bytes are, of either format and edition, or the fault that is met first in them.
     ///
     /// ```
     /// use simmerquilt::Book;
@@ -70,20 +75,81 @@ impl Book {
     /// # Ok::<(), simmerquilt::BookRefusal>(())
     /// ```
     pub fn from_bytes(bytes: Vec<u8>) -> Result<Book, BookRefusal> {
-        let Whole { header, records, end } = read(&bytes)?;
-        Ok(Book { room: bytes, header, end, records })
+        let Whole { header, records, live, end } = read(&bytes)?;
+        Ok(Book { room: bytes, header, end, records, live })
     }
 
-    /// Adds a record. Its station is above all others; its codes are made here, by the book's own edition. A refusal changes nothing.
+    /// Adds a record, whose codes are made here, by the book's own edition. A refusal changes nothing.
+    ///
+    /// A station above all others, closed ones too, always rises. The book closes up before it grows: where its room is full and that of
+    /// closed records is enough, the live ones move together, and the closed ones are gone. Then, and only then, the new station need be
+    /// above the live ones alone; until their room has been used again, the numbers of closed stations count for
+    /// [`BookRefusal::NotRising`] as those of live ones do.
+    ///
+    /// ```
+    /// use simmerquilt::{Book, BookRefusal};
+    ///
+    /// let mut book = Book::new(Some(4))?;
+    /// for station in [7, 20, 300] {
+    ///     book.add(station, "Villa Bridge")?;
+    /// }
+    /// // As it comes from a file, a book has no room but its own.
+    /// let mut book = Book::from_bytes(book.as_bytes().to_vec())?;
+    /// book.close(7)?;
+    /// book.close(300)?;
+    /// book.add(21, "Weser")?;
+    /// assert_eq!(book.records().map(|record| record.station).collect::<Vec<_>>(), [20, 21]);
+    /// # Ok::<(), BookRefusal>(())
+    /// ```
     pub fn add(&mut self, station: u64, name: impl AsRef<[u8]>) -> Result<(), BookRefusal> {
         let name = name.as_ref();
-        let mut answer = append_in(&mut self.room, self.header, self.end, station, name);
+        let mut answer = self.append(station, name);
+        if answer == Err(BookRefusal::RoomShort) && self.live < self.records {
+            answer = self.close_up(station, name);
+        }
         if answer == Err(BookRefusal::RoomShort) {
             self.grow(name.len())?;
-            answer = append_in(&mut self.room, self.header, self.end, station, name);
+            answer = self.append(station, name);
         }
-        self.end = answer?;
+        answer
+    }
+
+    /// Adds a record behind the end.
+    fn append(&mut self, station: u64, name: &[u8]) -> Result<(), BookRefusal> {
+        self.end = append_in(&mut self.room, self.header, self.end, station, name)?;
         self.records += 1;
+        self.live += 1;
+        Ok(())
+    }
+
+    /// Adds a record that does not fit behind the end: the closed ones make room for it.
+    fn close_up(&mut self, station: u64, name: &[u8]) -> Result<(), BookRefusal> {
+        let length = add_in(&mut self.room, self.end.length, station, name)?;
+        self.end = End { length, floor: station as u32 + 1 };
+        self.live += 1;
+        self.records = self.live;
+        Ok(())
+    }
+
+    /// Closes a station: its record stays, as [`Kind::Closed`], until its room is needed. [`BookRefusal::NotLive`] where no live record
+    /// has this station, and [`BookRefusal::Unknown`] for any in a book of format 1. A refusal changes nothing.
+    ///
+    /// ```
+    /// use simmerquilt::{Book, BookRefusal};
+    ///
+    /// let mut book = Book::new(Some(4))?;
+    /// book.add(7, "Villa Bridge")?;
+    /// book.add(300, "jumped")?;
+    /// book.close(7)?;
+    /// assert_eq!(book.close(7), Err(BookRefusal::NotLive));
+    /// assert_eq!((book.len(), book.live()), (2, 1));
+    /// let kinds: Vec<_> = book.records().map(|record| (record.station, record.kind.is_live())).collect();
+    /// assert_eq!(kinds, [(7, false), (300, true)]);
+    /// # Ok::<(), BookRefusal>(())
+    /// ```
+    pub fn close(&mut self, station: u64) -> Result<(), BookRefusal> {
+        close_in(&mut self.room, self.end.length, station)?;
+        self.live -= 1;
         Ok(())
     }
 
@@ -106,14 +172,19 @@ impl Book {
         self.room
     }
 
-    /// How many records it has.
+    /// How many records it has, closed ones too.
     pub fn len(&self) -> usize {
         self.records
     }
 
-    /// Whether it has no records.
+    /// Whether it has no records, not even closed ones.
     pub fn is_empty(&self) -> bool {
         self.records == 0
+    }
+
+    /// How many of its records are live.
+    pub fn live(&self) -> usize {
+        self.live
     }
 
     /// The most bytes that its codes may have, or none for any number of them.
@@ -121,12 +192,22 @@ impl Book {
         self.header.limit()
     }
 
+    /// How its records are laid out: 2 in a new book, 1 or 2 in one that was stored.
+    pub fn format(&self) -> u32 {
+        self.header.format
+    }
+
     /// Which edition of the letter rules makes its codes: 2 in a new book, 1 or 2 in one that was stored.
     pub fn edition(&self) -> u32 {
         self.header.edition
     }
 
-    /// Its records, by rising station.
+    /// Its live records, by rising station.
+    pub fn live_records(&self) -> impl Iterator<Item = Record<'_>> {
+        self.records().filter(|record| record.kind.is_live())
+    }
+
+    /// Its records, live and closed, by rising station.
     pub fn records(&self) -> Records<'_> {
         let book = self.as_bytes();
         let (_, cursor) = open(book).expect("a Book is good");
@@ -151,11 +232,11 @@ impl Book {
 fn record_room(name: usize, limit: Option<u64>) -> usize {
     let whole = (2 * name).saturating_sub(1);
     let code = limit.map_or(whole, |limit| whole.min(usize::try_from(limit).unwrap_or(whole)));
-    // A station has at most four groups, a length at most two.
-    4 + 2 + name + 2 * (2 + code)
+    // A kind has one group, a station at most four, a length at most two.
+    1 + 4 + 2 + name + 2 * (2 + code)
 }
 
-/// One list of records under one header has one book.
+/// One list of records under one header has one book. A closed record is one of the list.
 impl PartialEq for Book {
     fn eq(&self, other: &Book) -> bool {
         self.as_bytes() == other.as_bytes()
@@ -172,7 +253,11 @@ impl AsRef<[u8]> for Book {
 
 impl Debug for Book {
     fn fmt(&self, f: &mut Formatter<'_>) -> fmt::Result {
-        f.debug_struct("Book").field("header", &self.header).field("records", &self.records).finish_non_exhaustive()
+        f.debug_struct("Book")
+            .field("header", &self.header)
+            .field("records", &self.records)
+            .field("live", &self.live)
+            .finish_non_exhaustive()
     }
 }
 

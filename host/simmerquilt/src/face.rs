@@ -55,9 +55,17 @@ extern "C" {
 
     fn simmerquilt_book_open(book: *const u8, book_length: usize, out: *mut [u64; 6]);
 
-    fn simmerquilt_book_next(book: *const u8, book_length: usize, place: u64, floor: u32, out: *mut [u64; 11]);
+    fn simmerquilt_book_next(
+        book: *const u8,
+        book_length: usize,
+        format: u32,
+        edition: u32,
+        place: u64,
+        floor: u32,
+        out: *mut [u64; 12],
+    );
 
-    fn simmerquilt_book_read(book: *const u8, book_length: usize, out: *mut [u64; 6]);
+    fn simmerquilt_book_read(book: *const u8, book_length: usize, out: *mut [u64; 7]);
 
     fn simmerquilt_book_add(
         room: *mut u8,
@@ -83,7 +91,9 @@ extern "C" {
         out: *mut [u64; 3],
     );
 
-    fn simmerquilt_join_scratch(first_records: usize, second_records: usize) -> usize;
+    fn simmerquilt_book_close(room: *mut u8, room_length: usize, length: u64, station: u64, out: *mut [u64; 2]);
+
+    fn simmerquilt_join_scratch(first_live: usize, second_live: usize) -> usize;
 
     fn simmerquilt_join_count(
         first: *const u8,
@@ -217,19 +227,19 @@ pub fn book_open(book: &[u8]) -> [u64; 6] {
     out
 }
 
-/// Number, found, station, start and length of the name, the primary and the alternate code, place, floor.
+/// Number, found, station, start and length of the name, the primary and the alternate code, place, floor, kind.
 #[inline]
-pub fn book_next(book: &[u8], place: u64, floor: u32) -> [u64; 11] {
-    let mut out = [0; 11];
+pub fn book_next(book: &[u8], format: u32, edition: u32, place: u64, floor: u32) -> [u64; 12] {
+    let mut out = [0; 12];
     // SAFETY: as above. The book is only read, and any cursor may be passed.
-    unsafe { simmerquilt_book_next(book.as_ptr(), book.len(), place, floor, &mut out) };
+    unsafe { simmerquilt_book_next(book.as_ptr(), book.len(), format, edition, place, floor, &mut out) };
     out
 }
 
-/// Number, format, edition, cut, records, floor.
+/// Number, format, edition, cut, records, floor, live records.
 #[inline]
-pub fn book_read(book: &[u8]) -> [u64; 6] {
-    let mut out = [0; 6];
+pub fn book_read(book: &[u8]) -> [u64; 7] {
+    let mut out = [0; 7];
     // SAFETY: as above. The book is only read.
     unsafe { simmerquilt_book_read(book.as_ptr(), book.len(), &mut out) };
     out
@@ -273,6 +283,15 @@ pub fn book_append(
             &mut out,
         );
     }
+    out
+}
+
+/// Number, length.
+#[inline]
+pub fn book_close(room: &mut [u8], length: u64, station: u64) -> [u64; 2] {
+    let mut out = [0; 2];
+    // SAFETY: as above. Any length may be stated, also one beyond the room.
+    unsafe { simmerquilt_book_close(room.as_mut_ptr(), room.len(), length, station, &mut out) };
     out
 }
 

@@ -1,6 +1,8 @@
 //! The join of two books of one edition, whose cuts may differ: all pairs of stations that meet. Books of different editions are refused
 //! by 10, [`JoinRefusal::EditionsDiffer`].
 //!
+//! Closed records are skipped on both sides, and a book of format 1 is joined with one of format 2 as well as with its like.
+//!
 //! Two stations meet where their chosen codes agree on their first bytes, as many as the smaller limit of both books; no limit puts no
 //! bound, and a shorter code counts whole. [`Book::join`] makes a list of the pairs, a [`Joiner`] keeps what it works in from join to
 //! join, and the functions are the library's three calls for those who lend their own room; they allocate nothing.
@@ -15,8 +17,8 @@ pub use refusal::JoinRefusal;
 use crate::{book, Book};
 
 impl Book {
-    /// The pairs of a station of this book and one of another that meet, by rising station of this one, then of the other: at worst as
-    /// many as the product of both lengths. Both books are of one edition, else [`JoinRefusal::EditionsDiffer`].
+    /// The pairs of a live station of this book and one of another that meet, by rising station of this one, then of the other: at worst
+    /// as many as the product of the numbers of live records. Both books are of one edition, else [`JoinRefusal::EditionsDiffer`].
     ///
     /// ```
     /// use simmerquilt::join::Pair;
@@ -43,7 +45,7 @@ impl Book {
     pub fn join(&self, other: &Book, choice: Choice) -> Result<Vec<Pair>, JoinRefusal> {
         let (first, second) = (self.as_bytes(), other.as_bytes());
         let (mut scratch, mut room) = (Vec::new(), Vec::new());
-        grow(&mut scratch, scratch_words(self.len(), other.len()))?;
+        grow(&mut scratch, scratch_words(self.live(), other.live()))?;
         let count = count_in(first, second, choice, &mut scratch, u64::MAX)?;
         grow(&mut room, length(count))?;
         join_in(first, second, choice, &mut scratch, &mut room)?;
@@ -132,8 +134,8 @@ impl Joiner {
     }
 
     fn grow_scratch(&mut self, first: &[u8], second: &[u8]) -> Result<(), JoinRefusal> {
-        let first = book::read(first).map_err(JoinRefusal::First)?.records;
-        let second = book::read(second).map_err(JoinRefusal::Second)?.records;
+        let first = book::read(first).map_err(JoinRefusal::First)?.live;
+        let second = book::read(second).map_err(JoinRefusal::Second)?.live;
         grow(&mut self.scratch, scratch_words(first, second))
     }
 }

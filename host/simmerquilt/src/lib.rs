@@ -37,9 +37,9 @@
 //! ```
 //!
 //! [`encode_into`], [`encode_into_in`], [`explain_into`] and [`ask_equal`] are the library's own questions, on lent buffers and without
-//! allocation. A [`Book`] keeps names with their codes and says by which edition they were made; [`book`] has the library's calls for
-//! those who keep a book's bytes themselves. [`Book::join`] finds the stations of two books of one edition that meet, also where their
-//! cuts differ; [`join`] has it for those who lend their own room.
+//! allocation. A [`Book`] keeps names with their codes and says by which edition they were made, and its stations close; [`book`] has the
+//! library's calls for those who keep a book's bytes themselves. [`Book::join`] finds the stations of two books of one edition that meet,
+//! also where their cuts differ; [`join`] has it for those who lend their own room.
 #![deny(unsafe_code)]
 #![warn(missing_docs)]
 
@@ -53,7 +53,7 @@ mod lent;
 mod refusal;
 mod rules;
 
-pub use book::{Book, BookRefusal, Record, Records};
+pub use book::{Book, BookRefusal, Kind, Record, Records};
 pub use edition::{Edition, EditionEncoder};
 pub use explain::{explain_into, Explanation, Gain, Row, Told, ROW};
 pub use join::{Choice, JoinRefusal, Joiner, Pair};

@@ -13,6 +13,7 @@ tell-step-spec =
     (λ c. search needs)
     (λ c. search needs)
     (λ c. search needs)
+    (λ c. search needs)
     (λ c. rw (c .before .before .before .step .given .1))
     (λ c. rw (c .before .enum-told .given .1))
     (λ c. rw (c .before .before .step2 .given .1)))

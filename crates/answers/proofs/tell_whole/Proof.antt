@@ -14,5 +14,5 @@ tell-whole-spec =
     (λ c. search needs)
     (λ c. search needs)
     (λ c. search needs)
-    (λ c. rw (c .before .before .before .before .before .whole .given .1))
+    (λ c. rw (c .before .before .before .before .before .before .whole .given .1))
     (λ c. rw (c .before .before .whole2 .given .1)))

@@ -17,11 +17,11 @@ known-at-spec =
     (λ c κs. search needs)
     (λ c.
     let a = c .before .before .before .before .before .before .before .args in
-    value-refused (known (a .most)) (drop (a .at) (now (a .s))) (a .at) _ _ _ (sym (c .before .before .before .before .before .number-at .ensures) ∙ c .before .before .before .found .given .1) (sym (c .before .known-fault .ensures)) (c .if1 .taken))
+    value-refused (known (a .least) (a .most)) (drop (a .at) (now (a .s))) (a .at) _ _ _ (sym (c .before .before .before .before .before .number-at .ensures) ∙ c .before .before .before .found .given .1) (sym (c .before .known-fault .ensures)) (c .if1 .taken))
     (λ c. search needs)
     (λ c.
     let a = c .before .before .before .before .before .before .before .args in
-    value-kept (known (a .most)) (drop (a .at) (now (a .s))) (a .at) _ _ (sym (c .before .before .before .before .before .number-at .ensures) ∙ c .before .before .before .found .given .1) (sym (c .before .known-fault .ensures) ∙ c .if1 .left))
+    value-kept (known (a .least) (a .most)) (drop (a .at) (now (a .s))) (a .at) _ _ (sym (c .before .before .before .before .before .number-at .ensures) ∙ c .before .before .before .found .given .1) (sym (c .before .known-fault .ensures) ∙ c .if1 .left))
     (λ c.
     let a = c .before .before .before .before .before .args in
-    value-passed (known (a .most)) (drop (a .at) (now (a .s))) (a .at) _ (sym (c .before .before .before .number-at .ensures) ∙ c .before .found2 .given .1)))
+    value-passed (known (a .least) (a .most)) (drop (a .at) (now (a .s))) (a .at) _ (sym (c .before .before .before .number-at .ensures) ∙ c .before .found2 .given .1)))

@@ -1,6 +1,6 @@
 -- `book::known_fault` meets its contract. Assumes nothing.
 use mathlib.Core.Path.{sym}
-use Rattle.book.proofs.Told.{known-zero, known-above, known-good}
+use Rattle.book.proofs.Told.{known-below, known-above, known-good}
 use Rattle.book.proofs.known_fault.Statement.{statement}
 use Rattle.book.proofs.known_fault.Tie as tie
 
@@ -8,6 +8,6 @@ pub known-fault-spec : {M : Type 1} → statement M
 known-fault-spec =
     tie.close
     (tie.spec
-    (λ c. sym (known-zero _ _ (c .if1 .taken)))
-    (λ c. sym (known-above _ _ (c .before .if1 .left) (c .if2 .taken)))
-    (λ c. sym (known-good _ _ (c .before .if1 .left) (c .if2 .left))))
+    (λ c. sym (known-below _ _ _ (c .if1 .taken)))
+    (λ c. sym (known-above _ _ _ (c .before .if1 .left) (c .if2 .taken)))
+    (λ c. sym (known-good _ _ _ (c .before .if1 .left) (c .if2 .left))))

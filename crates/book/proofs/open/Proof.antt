@@ -2,7 +2,8 @@
 use mathlib.Core.Path.{sym, _∙_}
 use borrow.Author.Needs.{needs}
 use denote.Ref.{now}
-use Rattle.book.proofs.Told.{opens, opens-third, opens-second, opens-first}
+use Rattle.book.specs.Book.{formats}
+use Rattle.book.proofs.Opening.{opens, opens-third, opens-second, opens-first}
 use Rattle.book.proofs.open.Statement.{statement}
 use Rattle.book.proofs.open.Tie as tie
 
@@ -21,13 +22,13 @@ open-spec =
     (λ c. search needs)
     (λ c.
     let a = c .before .before .before .before .before .before .before .before .before .before .before .before .before .args in
-    opens (now (a .s)) _ _ _ _ _ _ (sym (c .before .before .before .before .before .before .before .before .before .before .before .known-at .ensures) ∙ c .before .before .before .before .before .before .before .before .before .first .given .1) (sym (c .before .before .before .before .before .before .before .known-at2 .ensures) ∙ c .before .before .before .before .before .second .given .1) (sym (c .before .before .before .number-at .ensures) ∙ c .before .third .given .1))
+    opens (formats (a .least)) (now (a .s)) _ _ _ _ _ _ (sym (c .before .before .before .before .before .before .before .before .before .before .before .known-at .ensures) ∙ c .before .before .before .before .before .before .before .before .before .first .given .1) (sym (c .before .before .before .before .before .before .before .known-at2 .ensures) ∙ c .before .before .before .before .before .second .given .1) (sym (c .before .before .before .number-at .ensures) ∙ c .before .third .given .1))
     (λ c.
     let a = c .before .before .before .before .before .before .before .before .before .before .before .before .before .args in
-    opens-third (now (a .s)) _ _ _ _ _ (sym (c .before .before .before .before .before .before .before .before .before .before .before .known-at .ensures) ∙ c .before .before .before .before .before .before .before .before .before .first .given .1) (sym (c .before .before .before .before .before .before .before .known-at2 .ensures) ∙ c .before .before .before .before .before .second .given .1) (sym (c .before .before .before .number-at .ensures) ∙ c .before .third2 .given .1))
+    opens-third (formats (a .least)) (now (a .s)) _ _ _ _ _ (sym (c .before .before .before .before .before .before .before .before .before .before .before .known-at .ensures) ∙ c .before .before .before .before .before .before .before .before .before .first .given .1) (sym (c .before .before .before .before .before .before .before .known-at2 .ensures) ∙ c .before .before .before .before .before .second .given .1) (sym (c .before .before .before .number-at .ensures) ∙ c .before .third2 .given .1))
     (λ c.
     let a = c .before .before .before .before .before .before .before .before .before .args in
-    opens-second (now (a .s)) _ _ _ (sym (c .before .before .before .before .before .before .before .known-at .ensures) ∙ c .before .before .before .before .before .first .given .1) (sym (c .before .before .before .known-at2 .ensures) ∙ c .before .second2 .given .1))
+    opens-second (formats (a .least)) (now (a .s)) _ _ _ (sym (c .before .before .before .before .before .before .before .known-at .ensures) ∙ c .before .before .before .before .before .first .given .1) (sym (c .before .before .before .known-at2 .ensures) ∙ c .before .second2 .given .1))
     (λ c.
     let a = c .before .before .before .before .before .args in
-    opens-first (now (a .s)) _ (sym (c .before .before .before .known-at .ensures) ∙ c .before .first2 .given .1)))
+    opens-first (formats (a .least)) (now (a .s)) _ (sym (c .before .before .before .known-at .ensures) ∙ c .before .first2 .given .1)))

@@ -2,7 +2,8 @@
 use mathlib.Core.Path.{sym, _∙_}
 use borrow.Author.Needs.{needs}
 use denote.Ref.{now}
-use Rattle.book.proofs.Walk.{reads, reads-bad, unopened}
+use Rattle.book.specs.Book.{formats}
+use Rattle.book.proofs.Opening.{reads, reads-bad, unopened}
 use Rattle.book.proofs.read.Statement.{statement}
 use Rattle.book.proofs.read.Tie as tie
 
@@ -18,10 +19,10 @@ read-spec =
     (λ c. search needs)
     (λ c.
     let a = c .before .before .before .before .before .before .before .before .before .args in
-    reads (now (a .s)) _ _ (sym (c .before .before .before .before .before .before .before .«open» .ensures) ∙ c .before .before .before .before .before .opened .given .1) _ _ (sym (c .before .before .before .records-from .ensures) ∙ c .before .all .given .1))
+    reads (formats (a .least)) (now (a .s)) _ _ (sym (c .before .before .before .before .before .before .before .«open» .ensures) ∙ c .before .before .before .before .before .opened .given .1) _ (sym (c .before .before .before .records-from .ensures) ∙ c .before .all .given .1))
     (λ c.
     let a = c .before .before .before .before .before .before .before .before .before .args in
-    reads-bad (now (a .s)) _ _ (sym (c .before .before .before .before .before .before .before .«open» .ensures) ∙ c .before .before .before .before .before .opened .given .1) _ (sym (c .before .before .before .records-from .ensures) ∙ c .before .all2 .given .1))
+    reads-bad (formats (a .least)) (now (a .s)) _ _ (sym (c .before .before .before .before .before .before .before .«open» .ensures) ∙ c .before .before .before .before .before .opened .given .1) _ (sym (c .before .before .before .records-from .ensures) ∙ c .before .all2 .given .1))
     (λ c.
     let a = c .before .before .before .before .before .args in
-    unopened (now (a .s)) _ (sym (c .before .before .before .«open» .ensures) ∙ c .before .opened2 .given .1)))
+    unopened (formats (a .least)) (now (a .s)) _ (sym (c .before .before .before .«open» .ensures) ∙ c .before .opened2 .given .1)))

@@ -1,9 +1,8 @@
 -- `book::record_at` meets its contract.
 use mathlib.Core.Path.{sym, _∙_}
-use native.Mathlib.Omega.{arith}
 use borrow.Author.Needs.{needs}
 use denote.Ref.{now}
-use Rattle.book.proofs.Told.{a-record, codes-bad, name-bad, station-bad, station-small}
+use Rattle.book.proofs.Entries.{kind-body, kind-fault}
 use Rattle.book.proofs.record_at.Statement.{statement}
 use Rattle.book.proofs.record_at.Tie as tie
 
@@ -15,23 +14,11 @@ record-at-spec =
     (λ c. search needs)
     (λ c κs. search needs)
     (λ c. search needs)
-    (λ c κs. search needs)
-    (λ c. search needs)
     (λ c.
-    let a = c .before .before .before .before .before .before .before .before .before .before .before .before .before .args in
-    omega (arith, station-small (now (a .s)) (a .at) (a .floor) _ _ (sym (c .before .before .before .before .before .before .before .before .before .before .before .station-at .ensures) ∙ c .before .before .before .before .before .before .before .before .before .first .given .1)))
-    (λ c. search needs)
-    (λ c. search needs)
-    (λ c. search needs)
+    let k = c .before .before .before .before in
+    let a = k .before .before .args in
+    c .body-at .ensures ∙ kind-body (a .format) (a .floor) (now (a .s)) (a .at) _ _ (sym (k .kind-at .ensures) ∙ c .before .before .first .given .1))
     (λ c.
-    let a = c .before .before .before .before .before .before .before .before .before .before .before .before .before .args in
-    a-record (now (a .s)) (a .at) (a .floor) _ _ _ _ _ _ _ (sym (c .before .before .before .before .before .before .before .before .before .before .before .station-at .ensures) ∙ c .before .before .before .before .before .before .before .before .before .first .given .1) (sym (c .before .before .before .before .before .before .before .name-at .ensures) ∙ c .before .before .before .before .before .second .given .1) (sym (c .before .before .before .codes-at .ensures) ∙ c .before .third .given .1))
-    (λ c.
-    let a = c .before .before .before .before .before .before .before .before .before .before .before .before .before .args in
-    codes-bad (now (a .s)) (a .at) (a .floor) _ _ _ _ _ (sym (c .before .before .before .before .before .before .before .before .before .before .before .station-at .ensures) ∙ c .before .before .before .before .before .before .before .before .before .first .given .1) (sym (c .before .before .before .before .before .before .before .name-at .ensures) ∙ c .before .before .before .before .before .second .given .1) (sym (c .before .before .before .codes-at .ensures) ∙ c .before .third2 .given .1))
-    (λ c.
-    let a = c .before .before .before .before .before .before .before .before .before .args in
-    name-bad (now (a .s)) (a .at) (a .floor) _ _ _ (sym (c .before .before .before .before .before .before .before .station-at .ensures) ∙ c .before .before .before .before .before .first .given .1) (sym (c .before .before .before .name-at .ensures) ∙ c .before .second2 .given .1))
-    (λ c.
-    let a = c .before .before .before .before .before .args in
-    station-bad (now (a .s)) (a .at) (a .floor) _ (sym (c .before .before .before .station-at .ensures) ∙ c .before .first2 .given .1)))
+    let k = c .before .before .before in
+    let a = k .before .before .args in
+    kind-fault (a .format) (a .floor) (now (a .s)) (a .at) _ (sym (k .kind-at .ensures) ∙ c .before .first2 .given .1)))

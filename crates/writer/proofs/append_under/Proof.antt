@@ -1,12 +1,15 @@
 -- `writer::append_under` meets its contract: the encoder tests the name, and its buffers are long enough.
+use Prim.Native.Nat.{_+_}
 use mathlib.Core.Path.{ap}
 use native.Mathlib.Omega.{arith}
 use borrow.Author.Needs.{needs}
 use denote.Ref.{now}
+use lib.Dec.{leb}
+use lib.ListN.{length}
 use Rattle.encoder.specs.Numbers.{numberOf}
 use Rattle.encoder.proofs.Room.{never-three, never-four}
-use Rattle.book.specs.Book.{recordBytes}
-use Rattle.writer.specs.Made.{keyed, newFault}
+use Rattle.writer.specs.Made.{newBytes, newFault}
+use Rattle.writer.specs.Ended.{floorWhere}
 use Rattle.writer.proofs.Placed.{placed-fault}
 use Rattle.writer.proofs.Named.{codes-fit, coded-placed, name-too-long, name-not-ascii}
 use Rattle.writer.proofs.append_under.Statement.{statement}
@@ -55,10 +58,14 @@ append-under-spec =
     (λ c.
     let e = c .before .before .before .before in
     let a = e .before .before .before .before .before .before .before .before .before .args in
-    placed-fault (now (a .room)) (a .len) (recordBytes (keyed (a .header) (a .station) (now (a .name)))) 1 (newFault (a .floor) (a .station) (now (a .name))) (name-too-long (e .encode .ensures) (a .floor) (a .station) (c .enum-told .given .1)) (λ z. omega arith))
+    let w = newBytes (a .header) (a .station) (now (a .name)) in
+    let f = floorWhere (leb (a .len + length w) (length (now (a .room)))) (a .header .format) (a .floor) in
+    placed-fault (now (a .room)) (a .len) w 1 (newFault f (a .station) (now (a .name))) (name-too-long (e .encode .ensures) f (a .station) (c .enum-told .given .1)) (λ z. omega arith))
     (λ c.
     let e = c .before .before .before .before in
     let a = e .before .before .before .before .before .before .before .before .before .args in
-    placed-fault (now (a .room)) (a .len) (recordBytes (keyed (a .header) (a .station) (now (a .name)))) 2 (newFault (a .floor) (a .station) (now (a .name))) (name-not-ascii (e .encode .ensures) (a .floor) (a .station) _ (c .enum-told2 .given .1)) (λ z. omega arith))
+    let w = newBytes (a .header) (a .station) (now (a .name)) in
+    let f = floorWhere (leb (a .len + length w) (length (now (a .room)))) (a .header .format) (a .floor) in
+    placed-fault (now (a .room)) (a .len) w 2 (newFault f (a .station) (now (a .name))) (name-not-ascii (e .encode .ensures) f (a .station) _ (c .enum-told2 .given .1)) (λ z. omega arith))
     (λ c. absurd (never-three (c .before .before .before .before .encode .ensures) (omega arith) (omega arith) (ap numberOf (c .enum-told3 .given .1))))
     (λ c. absurd (never-four (c .before .before .before .before .encode .ensures) (omega arith) (omega arith) (ap numberOf (c .enum-told4 .given .1)))))

@@ -24,7 +24,7 @@ begin-spec =
     placed-short (now (a .room)) 0 (headerBytes (newHeader (a .cut))) 0 refl (omega (arith, header-length (a .cut) (c .before .before .before .width .result) (c .before .before .width2 .result) (c .before .width3 .result) (c .before .before .before .width .ensures) (c .before .before .width2 .ensures) (c .before .width3 .ensures))))
     (λ c κs.
     let a = c .before .before .before .before .before .before .args in
-    (omega arith, omega arith, omega arith, omega (arith, c .before .if1 .left, wide 1 (c .before .before .before .before .width .result) (c .before .before .before .before .width .ensures), wide 2 (c .before .before .before .width2 .result) (c .before .before .before .width2 .ensures), wide (a .cut) (c .before .before .width3 .result) (c .before .before .width3 .ensures))))
+    (omega arith, omega arith, omega arith, omega (arith, c .before .if1 .left, wide 2 (c .before .before .before .before .width .result) (c .before .before .before .before .width .ensures), wide 2 (c .before .before .before .width2 .result) (c .before .before .before .width2 .ensures), wide (a .cut) (c .before .before .width3 .result) (c .before .before .width3 .ensures))))
     (λ c. search needs)
     (λ c.
     let a = c .before .before .before .before .before .before .before .before .before .args in

@@ -1,6 +1,6 @@
 -- `writer::end_fault` meets its contract.
 use borrow.Author.Needs.{needs}
-use Rattle.writer.proofs.Ends.{bad-format, bad-edition, behind-room, good-end}
+use Rattle.writer.proofs.Ends.{bad-header, behind-room, good-end}
 use Rattle.writer.proofs.end_fault.Statement.{statement}
 use Rattle.writer.proofs.end_fault.Tie as tie
 
@@ -9,14 +9,6 @@ end-fault-spec =
     tie.close
     (tie.spec
     (λ c κs. search needs)
-    (λ c. let a = c .before .before .before .args in bad-format (a .end) (a .room) _ (c .before .known-fault .ensures) (c .if1 .taken))
-    (λ c κs. search needs)
-    (λ c.
-    let a = c .before .before .before .before .before .args in
-    bad-edition (a .end) (a .room) _ (c .before .before .before .known-fault .ensures) (c .before .before .if1 .left) _ (c .before .known-fault2 .ensures) (c .if2 .taken))
-    (λ c.
-    let a = c .before .before .before .before .before .before .before .args in
-    behind-room (a .end) (a .room) _ (c .before .before .before .before .before .known-fault .ensures) (c .before .before .before .before .if1 .left) _ (c .before .before .before .known-fault2 .ensures) (c .before .before .if2 .left) (c .if3 .taken))
-    (λ c.
-    let a = c .before .before .before .before .before .before .before .args in
-    good-end (a .end) (a .room) _ (c .before .before .before .before .before .known-fault .ensures) (c .before .before .before .before .if1 .left) _ (c .before .before .before .known-fault2 .ensures) (c .before .before .if2 .left) (c .if3 .left)))
+    (λ c. let a = c .before .before .before .args in bad-header (a .end) (a .room) _ (c .before .unknown-fault .ensures) (c .if1 .taken))
+    (λ c. let a = c .before .before .before .before .before .args in behind-room (a .end) (a .room) _ (c .before .before .before .unknown-fault .ensures) (c .before .before .if1 .left) (c .if2 .taken))
+    (λ c. let a = c .before .before .before .before .before .args in good-end (a .end) (a .room) _ (c .before .before .before .unknown-fault .ensures) (c .before .before .if1 .left) (c .if2 .left)))

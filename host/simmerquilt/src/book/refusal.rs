@@ -1,8 +1,8 @@
 use std::error::Error;
 use std::fmt::{self, Display, Formatter};
 
-/// Why a book was not read, started or added to. Of several faults in a book the one that is met first is given; a new record is
-/// tested for 1, 2, 5, 8 and 9 in this order.
+/// Why a book was not read, started or added to, or a station of it not closed. Of several faults in a book the one that is met first is
+/// given; a new record is tested for 1, 2, 5, 8 and 9 in this order.
 #[derive(Clone, Copy, Debug, PartialEq, Eq, Hash)]
 pub enum BookRefusal {
     /// 1: a name is over [`WORD_LIMIT`](crate::WORD_LIMIT) bytes.
@@ -13,12 +13,15 @@ pub enum BookRefusal {
     BadNumber,
     /// 6: the book ends inside something.
     CutShort,
-    /// 7: the format or the edition is not known: the format 1 is, and the editions 1 and 2 are.
+    /// 7: the format, the edition or a record's kind is not known: the formats 1 and 2 are, the editions 1 and 2, and the kinds 0 and 1.
+    /// Also that a station of a book of format 1 is to be closed, whose records have no kind.
     Unknown,
-    /// 8: a station is not above the one before.
+    /// 8: a station is not above the one before. Closed records count as long as they are in the book.
     NotRising,
     /// 9: the lent room is too short for the result; from a [`Book`](crate::Book), which grows, that there was no memory for it.
     RoomShort,
+    /// 11: no live record has the station that is to be closed.
+    NotLive,
 }
 
 impl BookRefusal {
@@ -32,6 +35,7 @@ impl BookRefusal {
             BookRefusal::Unknown => 7,
             BookRefusal::NotRising => 8,
             BookRefusal::RoomShort => 9,
+            BookRefusal::NotLive => 11,
         }
     }
 
@@ -46,6 +50,7 @@ impl BookRefusal {
             7 => Some(BookRefusal::Unknown),
             8 => Some(BookRefusal::NotRising),
             9 => Some(BookRefusal::RoomShort),
+            11 => Some(BookRefusal::NotLive),
             other => unreachable!("the library is proved not to give the number {other}"),
         }
     }
@@ -58,9 +63,12 @@ impl Display for BookRefusal {
             BookRefusal::NameNotAscii => f.write_str("the name is not ASCII"),
             BookRefusal::BadNumber => f.write_str("a number is in a bad form or needs more than four groups"),
             BookRefusal::CutShort => f.write_str("the book is cut short"),
-            BookRefusal::Unknown => f.write_str("the book's format or edition is not known"),
+            BookRefusal::Unknown => f.write_str(
+                "the book's format, edition or a kind in it is not known, or a station of format 1 was to be closed",
+            ),
             BookRefusal::NotRising => f.write_str("the station is not above the one before"),
             BookRefusal::RoomShort => f.write_str("the room is too short"),
+            BookRefusal::NotLive => f.write_str("no live station has this number: it is not in the book, or closed already"),
         }
     }
 }

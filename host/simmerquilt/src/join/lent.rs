@@ -27,7 +27,7 @@ pub struct Pair {
     pub second: u32,
 }
 
-/// How many words of scratch the join of books with so many records needs: `3 * first + 8 * second + 1`, or [`usize::MAX`] where that
+/// How many words of scratch the join of books with so many live records needs: `3 * first + 8 * second + 1`, or [`usize::MAX`] where that
 /// does not fit.
 #[inline]
 pub fn scratch_words(first: usize, second: usize) -> usize {

@@ -1,20 +1,10 @@
 //! Starting a book and adding to it: refusals in their order, rooms of every length, and what is left alone.
 use crate::draw;
-use crate::witness::{blank, codes, made, same_adding, written};
+use crate::witness::{blank, held, lent, made, same_adding, written};
 use plain::Writer;
-use simmerquilt::book::{self, End, Header, Whole, HEADER_ROOM, RECORD_ROOM, STATION_END};
+use simmerquilt::book::{self, End, Whole, HEADER_ROOM, RECORD_ROOM, STATION_END};
 use simmerquilt::{Book, BookRefusal};
 use words::Rng;
-
-const HELD: u8 = 0xee;
-
-/// The book, then bytes that are to be kept, up to a room of this length.
-fn lent(book: &[u8], room: usize) -> Vec<u8> {
-    let mut lent = vec![HELD; room.max(book.len())];
-    lent[..book.len()].copy_from_slice(book);
-    lent.truncate(room);
-    lent
-}
 
 #[test]
 fn starting_asks_for_the_cut_and_then_for_room() {
@@ -22,10 +12,10 @@ fn starting_asks_for_the_cut_and_then_for_room() {
     for limit in ends.map(Some).into_iter().chain([None]) {
         let expected = Writer::new(limit).unwrap().into_bytes();
         for length in 0..HEADER_ROOM + 3 {
-            let mut room = vec![HELD; length];
+            let mut room = held(length);
             let started = book::start_in(&mut room, limit);
             if length < expected.len() {
-                assert_eq!((started, room), (Err(BookRefusal::RoomShort), vec![HELD; length]));
+                assert_eq!((started, room), (Err(BookRefusal::RoomShort), held(length)));
             } else {
                 assert_eq!((started, room), (Ok(expected.len()), lent(&expected, length)));
             }
@@ -33,29 +23,35 @@ fn starting_asks_for_the_cut_and_then_for_room() {
     }
     for limit in [STATION_END - 1, STATION_END, u64::MAX - 1, u64::MAX] {
         for length in [0, 3, HEADER_ROOM] {
-            let mut room = vec![HELD; length];
+            let mut room = held(length);
             assert_eq!(book::start_in(&mut room, Some(limit)), Err(BookRefusal::BadNumber));
-            assert_eq!(room, vec![HELD; length]);
+            assert_eq!(room, held(length));
         }
         assert_eq!(Book::new(Some(limit)).unwrap_err(), BookRefusal::BadNumber);
     }
 }
 
 #[test]
-fn a_new_book_carries_edition_2() {
-    let mut room = [HELD; HEADER_ROOM];
+fn a_new_book_carries_format_2_and_edition_2() {
+    let mut room = [0; HEADER_ROOM];
     assert_eq!(book::start_in(&mut room, Some(4)), Ok(3));
-    assert_eq!(room[..3], [1, 2, 5]);
-    assert_eq!(Book::new(None).unwrap().edition(), 2);
+    assert_eq!(room[..3], [2, 2, 5]);
+    let book = Book::new(None).unwrap();
+    assert_eq!((book.format(), book.edition()), (2, 2));
 }
 
-/// The record of "Van Chi" in an edition's book, under limit 4.
-const VAN_CHI: [(u32, &[u8]); 2] = [(1, b"\x0a\x07Van Chi\x03FNX\x03FNK"), (2, b"\x0a\x07Van Chi\x03FNK\x03FNK")];
+/// The record of "Van Chi" in a book of each format and edition, under limit 4.
+const VAN_CHI: [(u32, u32, &[u8]); 4] = [
+    (1, 1, b"\x0a\x07Van Chi\x03FNX\x03FNK"),
+    (1, 2, b"\x0a\x07Van Chi\x03FNK\x03FNK"),
+    (2, 1, b"\x01\x0a\x07Van Chi\x03FNX\x03FNK"),
+    (2, 2, b"\x01\x0a\x07Van Chi\x03FNK\x03FNK"),
+];
 
 #[test]
-fn a_book_is_added_to_under_its_own_edition() {
-    for (edition, record) in VAN_CHI {
-        let blank = blank(edition, Some(4));
+fn a_book_is_added_to_under_its_own_format_and_edition() {
+    for (format, edition, record) in VAN_CHI {
+        let blank = blank(format, edition, Some(4));
         let expected = [&blank[..], record].concat();
         let mut added = lent(&blank, expected.len());
         assert_eq!(book::add_in(&mut added, blank.len(), 10, b"Van Chi"), Ok(expected.len()));
@@ -63,14 +59,14 @@ fn a_book_is_added_to_under_its_own_edition() {
 
         let mut appended = lent(&blank, expected.len());
         let Whole { header, end, .. } = book::read(&blank).unwrap();
-        assert_eq!(header.edition, edition);
+        assert_eq!((header.format, header.edition), (format, edition));
         let end = book::append_in(&mut appended, header, end, 10, b"Van Chi");
         assert_eq!(end, Ok(End { length: expected.len(), floor: 11 }));
         assert_eq!(appended, expected);
 
         let mut grown = Book::from_bytes(blank).unwrap();
         grown.add(10, "Van Chi").unwrap();
-        assert_eq!((grown.edition(), grown.as_bytes()), (edition, &expected[..]));
+        assert_eq!((grown.format(), grown.edition(), grown.as_bytes()), (format, edition, &expected[..]));
     }
 }
 
@@ -79,7 +75,9 @@ fn rooms_of_every_length_around_the_need() {
     let mut rng = Rng::new(11, 0);
     for _ in 0..1500 {
         let count = rng.below(6);
-        let list = draw::list(&mut rng, count, draw::name);
+        let mut list = draw::list(&mut rng, count, draw::name);
+        // Closed records would make room.
+        list.closed.clear();
         let bytes = written(&list);
         let station = list.records.last().map_or(0, |(station, _)| station + 1);
         let name = draw::name(&mut rng);
@@ -97,10 +95,13 @@ fn rooms_of_every_length_around_the_need() {
 
 #[test]
 fn a_short_room_has_every_length() {
-    let list = draw::list(&mut Rng::new(12, 0), 4, draw::short_name);
-    let bytes = written(&list);
-    for room in 0..bytes.len() + 60 {
-        same_adding(&lent(&bytes, room), bytes.len(), STATION_END - 1, b"Schermerhorn");
+    let mut rng = Rng::new(12, 0);
+    for _ in 0..40 {
+        let list = draw::list(&mut rng, 4, draw::short_name);
+        let bytes = written(&list);
+        for room in 0..bytes.len() + 60 {
+            same_adding(&lent(&bytes, room), bytes.len(), STATION_END - 1, b"Schermerhorn");
+        }
     }
 }
 
@@ -109,9 +110,17 @@ fn a_short_room_has_every_length() {
 fn a_record_is_tested_for_1_2_5_8_9_behind_the_book() {
     let good = b"\x01\x01\x05\x07\x01a\x01A\x01A";
     let mut long = vec![b'b'; 1025];
-    let damages: [(u64, &[u8]); 9] = [
+    let damages: [(u64, &[u8]); 17] = [
         (0, good),
         (0, b"\x01\x02\x05\x07\x01a\x01A\x01A"),
+        (0, b"\x02\x01\x05\x01\x07\x01a\x01A\x01A"),
+        (0, b"\x02\x02\x05\x01\x07\x01a\x01A\x01A"),
+        (2, b"\x02\x02\x05\x00\x07\x01\x80"),
+        (5, b"\x02\x02\x05\x81\x00"),
+        (6, b"\x02\x02\x05\x00\x07\x01a\x01A\x01"),
+        (7, b"\x02\x02\x05\x02\x07\x01a\x01A\x01A"),
+        (7, b"\x03\x02\x05"),
+        (8, b"\x02\x02\x05\x00\x07\x00\x00\x00\x01\x07"),
         (1, b"\x01\x01\x05\x07\x81\x08"),
         (2, b"\x01\x01\x05\x07\x01\x80"),
         (5, b"\x01\x01\x05\x87\x00"),
@@ -188,88 +197,9 @@ fn of_a_length_beyond_the_room_the_bytes_that_are_there_are_read() {
             assert_eq!(same_adding(&good[..5], length, station, name), 6);
             assert_eq!(same_adding(&[], length, station, name), 6);
             assert_eq!(same_adding(&[1, 1, 0, 7, 2, b'a', 200], length, station, name), 2);
-            assert_eq!(same_adding(&[2], length, station, name), 7);
-        }
-    }
-}
-
-#[test]
-fn appending_is_adding_all_along_a_list() {
-    let mut rng = Rng::new(14, 0);
-    for _ in 0..400 {
-        let count = rng.below(30);
-        let list = draw::list(&mut rng, count, draw::name);
-        let room = written(&list).len() + rng.below(3);
-        let blank = blank(list.edition, list.limit);
-        let (mut added, mut appended) = (lent(&blank, room), lent(&blank, room));
-        let mut length = blank.len();
-        let Whole { header, mut end, .. } = book::read(&appended[..length]).unwrap();
-        for (station, name) in &list.records {
-            length = book::add_in(&mut added, length, *station, name).unwrap();
-            end = book::append_in(&mut appended, header, end, *station, name).unwrap();
-            assert_eq!(book::read(&appended[..length]).unwrap().end, end);
-            assert_eq!(appended, added);
-            // A station a second time.
-            assert_eq!(book::append_in(&mut appended, header, end, *station, name), Err(BookRefusal::NotRising));
-        }
-        assert_eq!(appended, added);
-    }
-}
-
-/// Every set of conditions at once: the first in order is given, and nothing is written.
-#[test]
-fn an_append_is_tested_for_7_and_6_and_then_as_a_record() {
-    let good = b"\x01\x01\x05\x07\x01a\x01A\x01A";
-    let mut long = vec![b'b'; 1025];
-    for conditions in 0..128 {
-        let holds = |condition: u32| conditions >> condition & 1 == 1;
-        let unknown = [(0, 1), (2, 1), (u32::MAX, 1), (1, 0), (1, 3), (1, 258), (2, 2), (1, u32::MAX)];
-        let known = [(1, 1), (1, 2)];
-        long[9] = if holds(3) { 200 } else { b'b' };
-        let name = if holds(2) { &long[..] } else { &long[..20] };
-        let station = if holds(4) { STATION_END } else { 8 };
-        let floor = if holds(5) { u32::MAX } else { 8 };
-        let room = if holds(6) { good.len() + 3 } else { good.len() + RECORD_ROOM };
-        let length = if holds(1) { room + 1 } else { good.len() };
-        let first = [7, 6, 1, 2, 5, 8, 9].into_iter().zip(0..).find(|(_, condition)| holds(*condition));
-        for (format, edition) in if holds(0) { &unknown[..] } else { &known } {
-            let header = Header { format: *format, edition: *edition, cut: 5 };
-            let mut room = lent(good, room);
-            let before = room.clone();
-            let answer = book::append_in(&mut room, header, End { length, floor }, station, name);
-            match first {
-                None => assert_eq!(answer, Ok(End { length: good.len() + 1 + 21 + 5 + 5, floor: 9 })),
-                Some((number, _)) => {
-                    assert_eq!(answer.unwrap_err().number(), number, "{conditions}");
-                    assert_eq!(room, before);
-                }
-            }
-        }
-    }
-}
-
-#[test]
-fn appending_needs_just_the_room_of_the_record() {
-    let mut rng = Rng::new(15, 0);
-    for _ in 0..2000 {
-        let (limit, name, station) = (draw::limit(&mut rng), draw::name(&mut rng), draw::number(&mut rng));
-        let mut writer = Writer::in_edition(draw::edition(&mut rng), limit).unwrap();
-        let book = writer.as_bytes().to_vec();
-        writer.push(station, &name, codes).unwrap();
-        let Whole { header, end, .. } = book::read(&book).unwrap();
-        for room in [writer.as_bytes().len() - 1, writer.as_bytes().len(), writer.as_bytes().len() + 9] {
-            let mut room = lent(&book, room);
-            let before = room.clone();
-            match book::append_in(&mut room, header, end, station, &name) {
-                Ok(end) => {
-                    assert_eq!(end, End { length: writer.as_bytes().len(), floor: station as u32 + 1 });
-                    assert_eq!(room, lent(writer.as_bytes(), before.len()));
-                }
-                Err(refusal) => {
-                    assert_eq!((refusal, before.len()), (BookRefusal::RoomShort, writer.as_bytes().len() - 1));
-                    assert_eq!(room, before);
-                }
-            }
+            assert_eq!(same_adding(&[3], length, station, name), 7);
+            assert_eq!(same_adding(&[2, 2, 0, 0, 7, 0, 0, 0], length, station, name), 6);
+            assert_eq!(same_adding(&[2, 2, 0, 0, 7, 0, 0, 0, 2], length, station, name), 7);
         }
     }
 }

@@ -5,9 +5,12 @@ use words::{Rng, FRAGMENTS};
 /// What a book is made of.
 #[derive(Clone, Debug)]
 pub struct List {
+    pub format: u32,
     pub edition: u32,
     pub limit: Option<u64>,
     pub records: Vec<(u64, Vec<u8>)>,
+    /// The stations that close when all are in the book; none in format 1.
+    pub closed: Vec<u64>,
 }
 
 /// The first number that does not fit into so many groups.
@@ -50,6 +53,11 @@ pub fn short_name(rng: &mut Rng) -> Vec<u8> {
     text(rng, length)
 }
 
+/// Either format.
+pub fn format(rng: &mut Rng) -> u32 {
+    plain::FORMATS[rng.below(plain::FORMATS.len())]
+}
+
 /// Either edition.
 pub fn edition(rng: &mut Rng) -> u32 {
     plain::EDITIONS[rng.below(plain::EDITIONS.len())]
@@ -71,16 +79,26 @@ fn text(rng: &mut Rng, length: usize) -> Vec<u8> {
     name.into_bytes()
 }
 
-/// A list of so many records, whose stations have every width.
+/// A list of so many records, whose stations have every width. In format 2 none are closed, some, or all.
 pub fn list(rng: &mut Rng, count: usize, name: impl Fn(&mut Rng) -> Vec<u8>) -> List {
+    let format = format(rng);
+    list_in(format, rng, count, name)
+}
+
+/// The same in a format.
+pub fn list_in(format: u32, rng: &mut Rng, count: usize, name: impl Fn(&mut Rng) -> Vec<u8>) -> List {
     let mut stations = BTreeSet::new();
     while stations.len() < count {
         stations.insert(number(rng));
     }
+    let open_of_four = if format == 1 { 4 } else { rng.below(5) };
+    let closed = stations.iter().copied().filter(|_| rng.below(4) >= open_of_four).collect();
     List {
+        format,
         edition: edition(rng),
         limit: limit(rng),
         records: stations.into_iter().map(|station| (station, name(rng))).collect(),
+        closed,
     }
 }
 
@@ -120,7 +138,8 @@ fn any_text(rng: &mut Rng, book: &mut Vec<u8>) {
 /// Bytes laid out as a book is, with faults in any field.
 pub fn shaped(rng: &mut Rng) -> Vec<u8> {
     let mut book = Vec::new();
-    for known in [1, edition(rng)] {
+    let format = format(rng);
+    for known in [format, edition(rng)] {
         let known = if rng.once_in(40) { number(rng) } else { known.into() };
         book.extend(any_number(rng, known));
     }
@@ -128,6 +147,10 @@ pub fn shaped(rng: &mut Rng) -> Vec<u8> {
     book.extend(any_number(rng, cut));
     let mut station = 0;
     for _ in 0..rng.below(6) {
+        if format > 1 {
+            let kind = if rng.once_in(20) { number(rng) } else { rng.below(2) as u64 };
+            book.extend(any_number(rng, kind));
+        }
         station = if rng.once_in(12) { number(rng) } else { station + rng.below(300) as u64 };
         book.extend(any_number(rng, station));
         for _ in 0..3 {
@@ -142,7 +165,7 @@ pub fn shaped(rng: &mut Rng) -> Vec<u8> {
 
 /// Any bytes, most of them small, so that numbers are short and lengths are met.
 pub fn bytes(rng: &mut Rng) -> Vec<u8> {
-    let mut book = vec![1, edition(rng) as u8];
+    let mut book = vec![format(rng) as u8, edition(rng) as u8];
     let length = rng.below(40);
     book.extend((0..length).map(|_| match rng.below(4) {
         0 => rng.byte(),

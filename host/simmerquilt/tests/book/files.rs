@@ -73,6 +73,21 @@ fn a_stored_book_of_edition_1_is_gone_on_under_it() {
 }
 
 #[test]
+fn a_closed_station_is_closed_in_its_file() {
+    let folder = folder("closed");
+    let path = folder.join("gauges.book");
+    book(40).save(&path).unwrap();
+    let mut loaded = Book::load(&path).unwrap();
+    loaded.close(7).unwrap();
+    loaded.save(&path).unwrap();
+    let mut again = Book::load(&path).unwrap();
+    assert_eq!((again.len(), again.live()), (40, 39));
+    assert_eq!(again.close(7), Err(BookRefusal::NotLive));
+    assert_eq!(again, loaded);
+    fs::remove_dir_all(folder).unwrap();
+}
+
+#[test]
 fn a_damaged_file_is_told() {
     let folder = folder("damaged");
     let path = folder.join("gauges.book");

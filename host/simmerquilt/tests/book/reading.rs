@@ -25,7 +25,8 @@ fn both_write_the_same_bytes_and_read_them_alike() {
         let bytes = written(&list);
         assert_eq!(book.as_bytes(), bytes, "{list:?}");
         same_reading(&bytes);
-        assert_eq!((book.len(), book.limit(), book.edition()), (list.records.len(), list.limit, list.edition));
+        assert_eq!((book.limit(), book.format(), book.edition()), (list.limit, list.format, list.edition));
+        assert_eq!((book.len(), book.live()), (list.records.len(), list.records.len() - list.closed.len()));
         assert_eq!(book.is_empty(), list.records.is_empty());
     }
 }
@@ -52,6 +53,9 @@ fn a_book_gives_its_records_back() {
         assert!(book.records().zip(expected).all(|(got, expected)| same_record(got, expected)));
         let names: Vec<_> = book.records().map(|record| (u64::from(record.station), record.name.to_vec())).collect();
         assert_eq!(names, list.records);
+        let closed = book.records().filter(|record| !record.kind.is_live()).map(|record| u64::from(record.station));
+        assert!(closed.eq(list.closed.iter().copied()));
+        assert!(book.live_records().eq(book.records().filter(|record| record.kind.is_live())));
         assert_eq!(book.into_bytes(), bytes);
     }
 }
@@ -119,22 +123,30 @@ fn every_short_string_of_some_bytes() {
             let bytes: Vec<u8> = (0..length).map(|at| BYTES[string / BYTES.len().pow(at) % BYTES.len()]).collect();
             same_reading(&bytes);
             // The same as what follows a header.
-            for edition in plain::EDITIONS {
-                same_reading(&[&[1, edition as u8, 0], &bytes[..]].concat());
+            for format in plain::FORMATS {
+                for edition in plain::EDITIONS {
+                    same_reading(&[&[format as u8, edition as u8, 0], &bytes[..]].concat());
+                }
             }
         }
     }
 }
 
 #[test]
-fn other_editions_are_not_known() {
-    for edition in (0..300).chain([16_383, 16_384, (1 << 21) + 1, (1 << 28) - 1]) {
-        let mut bytes = vec![1];
-        plain::push_number(&mut bytes, edition);
-        bytes.push(5);
-        same_reading(&bytes);
-        let read = Book::from_bytes(bytes).map(|book| u64::from(book.edition()));
-        assert_eq!(read, if matches!(edition, 1 | 2) { Ok(edition) } else { Err(BookRefusal::Unknown) });
+fn other_formats_and_editions_are_not_known() {
+    for number in (0..300).chain([16_383, 16_384, (1 << 21) + 1, (1 << 28) - 1]) {
+        let mut group = Vec::new();
+        plain::push_number(&mut group, number);
+        for other in [1, 2] {
+            let bytes = [&group[..], &[other, 5]].concat();
+            same_reading(&bytes);
+            let read = Book::from_bytes(bytes).map(|book| u64::from(book.format()));
+            assert_eq!(read, if matches!(number, 1 | 2) { Ok(number) } else { Err(BookRefusal::Unknown) });
+            let bytes = [&[other], &group[..], &[5]].concat();
+            same_reading(&bytes);
+            let read = Book::from_bytes(bytes).map(|book| u64::from(book.edition()));
+            assert_eq!(read, if matches!(number, 1 | 2) { Ok(number) } else { Err(BookRefusal::Unknown) });
+        }
     }
 }
 
@@ -143,14 +155,18 @@ fn any_cursor_gets_an_answer() {
     let mut rng = Rng::new(8, 0);
     for list in lists(9, 200, 6, draw::short_name) {
         let bytes = written(&list);
-        for place in 0..bytes.len() + 3 {
-            for floor in [0, 1, draw::number(&mut rng) as u32, (1 << 28) - 1, 1 << 28, u32::MAX] {
-                let reader = Reader::at(&bytes, place, floor.checked_sub(1));
-                same_walk(&bytes, Cursor { place, floor }, reader);
+        // Also of the other format than the book has.
+        for format in plain::FORMATS {
+            let header = plain::Header { format, edition: list.edition, cut: 0 };
+            for place in 0..bytes.len() + 3 {
+                for floor in [0, 1, draw::number(&mut rng) as u32, (1 << 28) - 1, 1 << 28, u32::MAX] {
+                    let reader = Reader::at(&bytes, header, place, floor.checked_sub(1)).unwrap();
+                    same_walk(&bytes, Cursor { format, edition: list.edition, place, floor }, reader);
+                }
             }
+            let far = Cursor { format, edition: list.edition, place: usize::MAX, floor: 0 };
+            assert_eq!(simmerquilt::book::next(&bytes, far), Ok(None));
         }
-        let far = Cursor { place: usize::MAX, floor: 0 };
-        assert_eq!(simmerquilt::book::next(&bytes, far), Ok(None));
     }
 }
 
@@ -178,13 +194,14 @@ fn codes_may_have_any_length() {
 
 #[test]
 fn numbers_of_four_groups_are_the_longest() {
-    let station = [1, 1, 0, 255, 255, 255, 127, 0, 0, 0];
-    assert_eq!(Book::from_bytes(station.to_vec()).unwrap().records().next().unwrap().station, (1 << 28) - 1);
-    // No further record can have a station above it.
-    let mut book = Book::from_bytes(station.to_vec()).unwrap();
-    for station in [0, (1 << 28) - 1] {
-        assert_eq!(book.add(station, "a").unwrap_err().number(), 8);
+    for bytes in [&[1, 1, 0, 255, 255, 255, 127, 0, 0, 0][..], &[2, 2, 0, 1, 255, 255, 255, 127, 0, 0, 0]] {
+        let mut book = Book::from_bytes(bytes.to_vec()).unwrap();
+        assert_eq!(book.records().next().unwrap().station, (1 << 28) - 1);
+        // No further record can have a station above it.
+        for station in [0, (1 << 28) - 1] {
+            assert_eq!(book.add(station, "a").unwrap_err().number(), 8);
+        }
+        assert_eq!(book.add(1 << 28, "a").unwrap_err().number(), 5);
+        assert_eq!(book.as_bytes(), bytes);
     }
-    assert_eq!(book.add(1 << 28, "a").unwrap_err().number(), 5);
-    assert_eq!(book.as_bytes(), station);
 }

@@ -1,5 +1,5 @@
 //! Books whose keys meet often, the same from the same seed.
-use plain::{Writer, EDITIONS};
+use plain::{Writer, EDITIONS, FORMATS};
 use simmerquilt::book::STATION_END;
 use simmerquilt::{Book, DoubleMetaphone, Edition};
 use words::{gauges, Rng, FRAGMENTS};
@@ -67,11 +67,33 @@ pub fn book(limit: Option<u64>, records: &[(u64, String)]) -> Book {
     book_in(plain::NEW_EDITION, limit, records)
 }
 
-/// The same under an edition, from a header that the plain writer makes.
+/// The same under an edition.
 pub fn book_in(edition: u32, limit: Option<u64>, records: &[(u64, String)]) -> Book {
-    let mut book = Book::from_bytes(Writer::in_edition(edition, limit).unwrap().into_bytes()).unwrap();
+    book_of(plain::NEW_FORMAT, edition, limit, records)
+}
+
+/// The same in a format and under an edition, from a header that the plain writer makes.
+pub fn book_of(format: u32, edition: u32, limit: Option<u64>, records: &[(u64, String)]) -> Book {
+    let mut book = Book::from_bytes(Writer::of(format, edition, limit).unwrap().into_bytes()).unwrap();
     for (station, name) in records {
         book.add(*station, name).unwrap();
+    }
+    book
+}
+
+/// Either format.
+pub fn format(rng: &mut Rng) -> u32 {
+    FORMATS[rng.below(FORMATS.len())]
+}
+
+/// A book of format 2 with none, some or all of its stations closed.
+pub fn with_closed(rng: &mut Rng, mut book: Book) -> Book {
+    let open_of_four = rng.below(5);
+    let stations: Vec<u32> = book.records().map(|record| record.station).collect();
+    for station in stations {
+        if rng.below(4) >= open_of_four {
+            book.close(station.into()).unwrap();
+        }
     }
     book
 }
@@ -87,13 +109,15 @@ fn any_code(rng: &mut Rng) -> Vec<u8> {
     }
 }
 
-/// A book of so many records whose codes are wrong for their names.
+/// A book of either format and of so many records whose codes are wrong for their names; in format 2 some may be closed.
 pub fn coded(rng: &mut Rng, edition: u32, limit: Option<u64>, count: usize) -> Vec<u8> {
-    let mut writer = Writer::in_edition(edition, limit).unwrap();
+    let format = format(rng);
+    let mut writer = Writer::of(format, edition, limit).unwrap();
     for station in stations(rng, count) {
         writer.push(station, b"Weser", |_, _| (any_code(rng), any_code(rng))).unwrap();
     }
-    writer.into_bytes()
+    let book = Book::from_bytes(writer.into_bytes()).unwrap();
+    if format == 1 { book } else { with_closed(rng, book) }.into_bytes()
 }
 
 /// Both codes of a name that is encoded afresh by an edition.

@@ -54,6 +54,21 @@ fn the_stored_lists_of_different_editions_are_not_joined() {
 }
 
 #[test]
+fn the_stored_lists_of_different_formats_meet_without_the_closed_stations() {
+    let (old, new, shut) = (stored("gauges-4-edition-2"), stored("gauges-4-format-2"), stored("gauges-4-closed-up"));
+    for choice in BOTH {
+        let closed = |station: u32| matches!(station, 10 | 268_435_455);
+        let all = old.join(&old, choice).unwrap();
+        let live: Vec<Pair> = all.iter().copied().filter(|pair| !closed(pair.second)).collect();
+        assert!(live.len() < all.len());
+        assert_eq!(old.join(&new, choice).unwrap(), live);
+        for (first, second) in [(&old, &new), (&new, &old), (&new, &new), (&new, &shut), (&shut, &old)] {
+            assert_eq!(first.join(second, choice).unwrap(), by_names(first, second, choice));
+        }
+    }
+}
+
+#[test]
 fn van_chi_meets_as_its_edition_sounds() {
     let met = |edition, choice| {
         let book = |name: &str| draw::book_in(edition, Some(4), &[(10, name.to_string())]);

@@ -7,13 +7,18 @@ use simmerquilt::{Book, JoinRefusal, Joiner};
 use words::Rng;
 
 /// Each fault of a book, with its number.
-const FAULTS: [(&[u8], u64); 9] = [
+const FAULTS: [(&[u8], u64); 14] = [
     (b"\x01\x01\x05\x07\x81\x08", 1),
     (b"\x01\x01\x05\x07\x02a\x80\x01A\x01A", 2),
     (b"\x01\x01\x80\x00", 5),
     (b"", 6),
     (b"\x01\x01\x05\x07\x01a\x01A\x01", 6),
-    (b"\x02", 7),
+    (b"\x03", 7),
+    (b"\x02\x01\x05\x02\x07\x00\x00\x00", 7),
+    (b"\x02\x01\x05\x81\x00", 5),
+    (b"\x02\x01\x05\x00\x07\x02a\x80\x01A\x01A", 2),
+    (b"\x02\x01\x05\x00", 6),
+    (b"\x02\x01\x05\x00\x07\x00\x00\x00\x01\x07", 8),
     (b"\x01\x00\x05", 7),
     (b"\x01\x03\x05", 7),
     (b"\x01\x01\x05\x07\x00\x00\x00\x07\x00\x00\x00", 8),
@@ -24,7 +29,7 @@ const GOOD: &[u8] = b"\x01\x01\x05\x07\x01a\x01A\x01A\x09\x01a\x01A\x01A";
 /// The same bytes under an edition, where they are of edition 1.
 fn under(edition: u32, bytes: &[u8]) -> Vec<u8> {
     let mut bytes = bytes.to_vec();
-    if let [1, one @ 1, ..] = &mut bytes[..] {
+    if let [1 | 2, one @ 1, ..] = &mut bytes[..] {
         *one = edition as u8;
     }
     bytes

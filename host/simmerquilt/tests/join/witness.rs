@@ -42,13 +42,14 @@ fn expected(first: &[u8], second: &[u8], choice: Choice) -> Result<Vec<Pair>, To
     Ok(pairs.into_iter().map(|(first, second)| Pair { first, second }).collect())
 }
 
-fn records(book: &[u8]) -> usize {
-    plain::read(book).map_or(0, |(_, records)| records.len())
+/// How many live records a book has.
+fn live(book: &[u8]) -> usize {
+    plain::read(book).map_or(0, |(_, records)| records.iter().filter(|record| record.live).count())
 }
 
 impl<'a> Case<'a> {
     pub fn new(first: &'a [u8], second: &'a [u8], choice: Choice) -> Self {
-        let need = 3 * records(first) + 8 * records(second) + 1;
+        let need = 3 * live(first) + 8 * live(second) + 1;
         Case { first, second, choice, need, expected: expected(first, second, choice) }
     }
 
@@ -126,7 +127,7 @@ impl<'a> Case<'a> {
     /// All this around the need: scratch and room exact, too short and more than enough, caps below, at and above the count.
     pub fn all(&self, joiner: &mut Joiner) {
         let (need, pairs) = (self.need, self.pairs());
-        assert_eq!(scratch_words(records(self.first), records(self.second)), need, "{}", self.told());
+        assert_eq!(scratch_words(live(self.first), live(self.second)), need, "{}", self.told());
         for (scratch, room) in [(need, pairs), (need + 3, pairs + 2), (need, pairs.saturating_sub(1)), (need + 1, 0)] {
             self.joins(scratch, room);
         }

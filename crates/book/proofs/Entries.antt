@@ -3,7 +3,7 @@ use Prim.Native.Nat.{ℕ, _+_, _≤_, _<_}
 use mathlib.Core.Path.{_≡_, refl, sym, ap, _∙_}
 use mathlib.Core.List.{List, [], _∷_}
 use native.Mathlib.Omega.{arith}
-use borrow.Author.Tests.{lt-ltb, le-ltb, le-leb, lt-leb, ne-eqb, eqb-false}
+use borrow.Author.Tests.{lt-ltb, le-ltb, le-leb, lt-leb, ne-eqb}
 use lib.ListN.{length, drop}
 use Rattle.fields.specs.declared.Span.{Span}
 use Rattle.fields.specs.declared.Value.the-variants as value
@@ -17,7 +17,7 @@ use Rattle.book.specs.declared.Cursor.{Cursor}
 use Rattle.book.specs.declared.Step.{Step}
 use Rattle.book.specs.declared.Step.the-variants as step
 use Rattle.book.specs.Book.{Record, Entry, kindBytes, entryBytes, formats, editions, kinds, readRecord, readKind, entryOf, readEntry, above, readEntries}
-use Rattle.book.specs.Told.{namePlace, primaryPlace, alternatePlace, bodyAt, bodyPlace, stepAt, unknown, stepOf, nextOf}
+use Rattle.book.specs.Told.{namePlace, primaryPlace, alternatePlace, bodyAt, bodyPlace, stepAt, unknown, nextOf}
 use Rattle.book.proofs.Book.{kind-law, entry-law, some-entry}
 
 -- ---- a kind

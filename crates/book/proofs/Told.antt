@@ -19,7 +19,6 @@ use Rattle.fields.proofs.Field.{number-law, text-law, some-number, bytes-bad, b
 use Rattle.fields.proofs.Told.{value-told, value-fault, part-told, part-fault, then-good, then-first, then-second}
 use Rattle.encoder.specs.Trim.{anyHigh, isAscii}
 use Rattle.encoder.specs.Numbers.{wordLimit}
-use Rattle.encoder.specs.Editions.{lastEdition}
 use Rattle.book.specs.declared.Codes.the-variants as codes
 use Rattle.book.specs.declared.Step.the-variants as step
 use Rattle.book.specs.Book.{known, rising, nameLength, nameByte, recordOf, Texts, readRecord}

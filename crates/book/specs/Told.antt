@@ -19,7 +19,7 @@ use Rattle.book.specs.declared.Survey.the-variants as survey
 use Rattle.book.specs.declared.Whole.{Whole}
 use Rattle.book.specs.declared.Whole.the-variants as whole
 use Rattle.book.specs.declared.Measure.{Measure}
-use Rattle.book.specs.Book.{Header, Record, Entry, Book, headerBytes, kindBytes, formats, editions, readRecord, readEntry, above, live, liveBytes, floorOf}
+use Rattle.book.specs.Book.{Header, Record, Entry, Book, headerBytes, kindBytes, formats, editions, readEntry, above, live, liveBytes, floorOf}
 
 abbrev pub openedBy : Got Header → Opened
 openedBy (good h n) = opened.Book h (record { at = n; floor = 0 })

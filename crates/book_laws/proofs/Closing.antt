@@ -4,8 +4,8 @@ use mathlib.Core.Path.{_≡_, refl, sym, ap, _∙_}
 use mathlib.Core.Bool.{Bool, true, false, cond, _&&_, _||_}
 use mathlib.Core.List.{List, [], _∷_, _++_, append-assoc}
 use native.Mathlib.Omega.{arith}
-use borrow.Author.Tests.{eqb-true, leb-true, leb-false, ne-eqb, eq-eqb, le-ltb}
-use lib.Dec.{leb, eqb}
+use borrow.Author.Tests.{eqb-true, ne-eqb, le-ltb}
+use lib.Dec.{eqb}
 use lib.ListN.{length, take, getD, set, length-append, length-set}
 use lib.Seq.{set-at, getD-at, getD-set-other, getD-take, length-take-le, take-set-lt}
 use Rattle.number.specs.Septets.{Bytes}
@@ -15,7 +15,7 @@ use Rattle.fields.proofs.Law.{never, same}
 use Rattle.fields.proofs.All as all
 use Rattle.book.specs.declared.Header.{Header}
 use Rattle.book.specs.Book.{Entry, Book, headerBytes, recordBytes, kindBytes, entryBytes, written, lastFormat, formats, above, readBookBy, isLive}
-use Rattle.book.proofs.Book.{FineKind, unspelt, spelt, FineEntry, FineEntries, FineHeader, reads-back, OneBook, one-book}
+use Rattle.book.proofs.Book.{spelt, FineEntry, FineEntries, FineHeader, reads-back, OneBook, one-book}
 use Rattle.book.proofs.Told.{known-good}
 use Rattle.writer.specs.declared.Made.{Made}
 use Rattle.writer.specs.declared.Made.the-variants.{Length, Fault}

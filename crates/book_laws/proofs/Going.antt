@@ -5,19 +5,19 @@ use mathlib.Core.Path.{_≡_, refl, sym, ap, subst, _∙_}
 use mathlib.Core.Bool.{Bool, true, false, cond}
 use mathlib.Core.List.{List, [], _∷_, _++_}
 use native.Mathlib.Omega.{arith}
-use borrow.Author.Tests.{lt-ltb, le-ltb, le-leb, lt-leb, leb-true, leb-false, ne-eqb, eqb-true, eqb-false}
+use borrow.Author.Tests.{lt-ltb, le-ltb, le-leb, leb-true, leb-false, ne-eqb, eqb-true, eqb-false}
 use lib.Dec.{ltb, leb, eqb}
 use lib.ListN.{length, take}
 use lib.Seq.{length-take-le, length-sets}
 use Rattle.number.specs.Septets.{Bytes}
 use Rattle.encoder.specs.Numbers.{wordLimit}
 use Rattle.encoder.specs.Trim.{firstHigh}
-use Rattle.fields.specs.Got.{Got, good, bad}
+use Rattle.fields.specs.Got.{Got, good}
 use Rattle.fields.proofs.Law.{same}
 use Rattle.book.specs.declared.Header.{Header}
 use Rattle.book.specs.declared.Measure.{Measure}
 use Rattle.book.specs.declared.Whole.the-variants as whole
-use Rattle.book.specs.Book.{Entry, Book, formats, above, readBookBy, readBook, floorOf}
+use Rattle.book.specs.Book.{Entry, Book, formats, above, readBook, floorOf}
 use Rattle.book.specs.Told.{wholeBy}
 use Rattle.book.proofs.Book.{OneBook, one-book}
 use Rattle.book.proofs.Opening.{whole-told}

@@ -20,7 +20,7 @@ use Rattle.book.specs.declared.Header.{Header}
 use Rattle.book.specs.Book.{Entry, Book, headerBytes, entryBytes, written, formats, above, readBook, floorOf}
 use Rattle.book.proofs.Book.{FineHeader, FineRecord, FineKind, unspelt, spelt, FineEntry, FineEntries, reads-back, OneBook, one-book}
 use Rattle.writer.specs.declared.Made.{Made}
-use Rattle.writer.specs.declared.Made.the-variants.{Length, Fault}
+use Rattle.writer.specs.declared.Made.the-variants.{Length}
 use Rattle.writer.specs.Made.{limitOf, cutFault, left, Placed, newHeader, codeUnder, keyed, keyedEntry, newBytes, newFault}
 use Rattle.writer.specs.Ended.{readIn}
 use Rattle.writer.proofs.Placed.{Laid, was-laid, Sound, sound}

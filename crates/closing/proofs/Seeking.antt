@@ -1,6 +1,6 @@
 -- The walk to the record that a close is about. Assumes nothing.
 use Prim.Native.Nat.{ℕ, _+_, _≤_, _<_}
-use mathlib.Core.Path.{_≡_, refl, sym, ap, _∙_}
+use mathlib.Core.Path.{_≡_, sym, ap, _∙_}
 use mathlib.Core.Bool.{Bool, true, false, cond, _&&_}
 use mathlib.Core.List.{List, [], _∷_}
 use native.Mathlib.Omega.{arith}
@@ -9,13 +9,13 @@ use lib.Dec.{eqb}
 use lib.ListN.{length, drop, length-drop}
 use lib.Seq.{drop-drop}
 use Rattle.fields.specs.declared.Span.{Span}
-use Rattle.fields.specs.Got.{Got, good, bad}
+use Rattle.fields.specs.Got.{Got, good}
 use Rattle.book.specs.declared.Cursor.{Cursor}
 use Rattle.book.specs.declared.Step.the-variants as step
 use Rattle.book.specs.Book.{Entry, entryBytes, readEntry, above, readEntries}
 use Rattle.book.specs.Told.{stepAt}
 use Rattle.book.proofs.Book.{entry-law, some-entry}
-use Rattle.book.proofs.Entries.{step-told, step-fault, never-end, Behind, behind, first-good, none-behind}
+use Rattle.book.proofs.Entries.{step-told, step-fault, Behind, behind, first-good, none-behind}
 use Rattle.closing.specs.declared.Place.the-variants as place
 use Rattle.closing.specs.Closing.{meant, placeOf, AllGood, placeTold, soughtBy, Sought}
 

@@ -20,7 +20,7 @@ use Rattle.book.specs.declared.Step.the-variants as step
 use Rattle.book.specs.Book.{Entry, entryBytes, readEntry, above, readEntries, liveBytes}
 use Rattle.book.specs.Told.{stepAt}
 use Rattle.book.proofs.Book.{entry-law, some-entry}
-use Rattle.book.proofs.Entries.{step-told, step-fault, never-end, behind, first-good, none-behind}
+use Rattle.book.proofs.Entries.{step-told, step-fault, behind, first-good, none-behind}
 use Rattle.book.proofs.Measured.{live-kept, live-passed, none-live}
 use Rattle.closing.specs.Closing.{AllGood}
 use Rattle.closing.specs.Up.{entriesIn, liveOf}

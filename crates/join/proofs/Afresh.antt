@@ -2,9 +2,9 @@
 -- afresh with limit m. The codes of books that the writer makes are right. Assumes nothing.
 use Prim.Native.Nat.{ℕ}
 use mathlib.Core.Path.{_≡_, refl, sym, ap, ap₂, subst, _∙_}
-use lib.Dec.{eqb}
 use mathlib.Core.Bool.{Bool, true, false, cond, _&&_}
 use mathlib.Core.List.{List, [], _∷_, _++_}
+use lib.Dec.{eqb}
 use Rattle.rules.specs.declared.Edition.{Edition}
 use Rattle.encoder.specs.declared.Limit.{Limit}
 use Rattle.encoder.specs.declared.Limit.the-variants.{Whole, At}

@@ -207,9 +207,7 @@ fn append_coded(
         return Made::Fault(8);
     }
     if fits {
-        return Made::Length(put_entry(
-            room, len, format, number, name, primary, alternate,
-        ));
+        return Made::Length(put_entry(room, len, format, number, name, primary, alternate));
     }
     Made::Fault(9)
 }

@@ -1,12 +1,11 @@
 -- `writer::append_coded` meets its contract: 5, then 8 and 9 by the room's test.
-use mathlib.Core.Path.{sym, _∙_}
+use Prim.Native.Nat.{_+_, _-_}
 use native.Mathlib.Omega.{arith}
 use borrow.Author.Needs.{needs}
 use borrow.Author.Tests.{leb-true}
 use denote.Ref.{now}
 use lib.Dec.{leb}
 use lib.ListN.{length}
-use Prim.Native.Nat.{_+_, _-_}
 use Rattle.book.specs.Book.{entryBytes}
 use Rattle.writer.specs.Made.{entryWith, stationFault}
 use Rattle.writer.specs.Ended.{floorWhere}

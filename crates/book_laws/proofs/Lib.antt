@@ -8,6 +8,7 @@
 --     Grows     `start-reads`, `add-reads`: what starting and adding leave reads back
 --     Going     `append-adds`, `goes-on`, `read-end`: going on from a known end is adding, but for a 9
 --     Closing   `close-one`, `close-when`, `closed-again`: a close changes one byte; when it is refused
+--     Examples  the rules of L7, each on one small book
 pub mod Good
 pub mod Rising
 pub mod Answers
@@ -17,3 +18,4 @@ pub mod Live
 pub mod Grows
 pub mod Going
 pub mod Closing
+pub mod Examples

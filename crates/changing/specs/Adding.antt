@@ -1,5 +1,5 @@
--- Adding a record. Where it does not fit as the book stands, the book is closed up first. All records of a format 1 book are live, so that closing up
--- changes nothing there, and one definition serves both formats. crates/book_laws/proofs/Grows.antt shows what is read afterwards.
+-- Adding a record. Where it does not fit as the book stands, the book is closed up first. All records of a format 1 book are live, so that
+-- closing up changes nothing there, and one definition serves both formats. crates/book_laws/proofs/Grows.antt shows what is read afterwards.
 use Prim.Native.Nat.{ℕ, _+_, _≤_}
 use mathlib.Core.Path.{_≡_}
 use mathlib.Core.Bool.{Bool, true, false}

@@ -1,6 +1,6 @@
-// A station key book in lent room, read first and then changed: a record is added, or a station is closed. A fault is document 02's number: the
-// reader's, then 1, 2, 5 and 8 of a new record and 9 where the room is too short for it even when the book is closed up; 11 where a station has no live
-// record. A refusal changes nothing.
+// A station key book in lent room, read first and then changed: a record is added, or a station is closed. A fault is document 02's number:
+// the reader's; 1, 2, 5 and 8 of a new record, and 9 where the room is too short for it even when the book is closed up; 11 where a station
+// has no live record. A refusal changes nothing.
 ghost use mathlib.Core.Path.{_≡_};
 ghost use Prim.Native.Nat.{_≤_};
 ghost use lib.ListN.{length};
@@ -15,14 +15,12 @@ use closing::Place;
 use encoder::Answer;
 use encoder::Choice;
 use encoder::Encoder;
-use encoder::WORD_LIMIT;
 use encoder::chosen;
 use encoder::edition_of;
+use writer::CODE_ROOM;
+use writer::LARGEST;
 use writer::Made;
 use writer::put_entry;
-
-// A code of any accepted name has room here, whatever the limit.
-const CODE_ROOM: usize = 2 * WORD_LIMIT - 1;
 
 // Adds a record whose codes are made to the book that stands in the first `len` bytes of the room. Where it does not fit, the book is closed
 // up first.
@@ -40,7 +38,7 @@ fn add_coded(
     requires { ⌜ Stands (now room) len header first measure × (length (now name) ≤ wordLimit) × (length (now primary) ≤ codeRoom) × (length (now alternate) ≤ codeRoom) ⌝ }
     ensures { λ r. ⌜ CodedAdded (now (room .entry)) len station (now (name .entry)) (now (primary .entry)) (now (alternate .entry)) r (now (room .exit)) ⌝ }
 {
-    if 0x0fff_ffff < station {
+    if LARGEST < station {
         return Made::Fault(5);
     }
     let number = station as u32;

@@ -23,10 +23,10 @@ use encoder::chosen;
 use encoder::edition_of;
 
 // A code of any accepted name has room here, whatever the limit.
-const CODE_ROOM: usize = 2 * WORD_LIMIT - 1;
+pub const CODE_ROOM: usize = 2 * WORD_LIMIT - 1;
 
 // The largest number that four groups hold.
-const LARGEST: u64 = 0x0fff_ffff;
+pub const LARGEST: u64 = 0x0fff_ffff;
 
 // The length of the book that was made.
 pub enum Made {

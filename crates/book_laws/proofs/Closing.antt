@@ -22,7 +22,7 @@ use Rattle.writer.specs.declared.Made.the-variants.{Length, Fault}
 use Rattle.writer.specs.Ended.{readInBy, readIn}
 use Rattle.writer.proofs.Ends.{Lies, lies}
 use Rattle.closing.specs.Closing.{meant, closed, closedIn, placeOf, kindPlace}
-use Rattle.closing.proofs.Up.{bytes-take}
+use Rattle.fields.proofs.Law.{bytes-take}
 use Rattle.changing.specs.Closed.{closeAnswer, closeLeaves, Closed}
 use Rattle.book_laws.specs.Closing.{hasLive}
 use Rattle.book_laws.proofs.Good.{not-below, is-known}

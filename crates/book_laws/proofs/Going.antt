@@ -30,7 +30,7 @@ use Rattle.writer.specs.Made.{placed, left, keyed, keyedEntry, newBytes, newFau
 use Rattle.writer.specs.Ended.{readInBy, readIn, endOf, GoodEnd, floorWhere, floorAt, placedAt, behind, Appended, lengthOf}
 use Rattle.writer.proofs.Placed.{Laid, was-laid}
 use Rattle.writer.proofs.Ends.{Lies, lies, no-end-fault, placed-on}
-use Rattle.closing.proofs.Up.{bytes-take}
+use Rattle.fields.proofs.Law.{bytes-take}
 use Rattle.changing.specs.Adding.{baseOf, addBase, addPlaced, addLeft, addAnswer, addLeaves, Added}
 use Rattle.changing.proofs.Adding.{sets-same}
 use Rattle.book_laws.proofs.Live.{one-base}

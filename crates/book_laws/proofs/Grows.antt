@@ -26,7 +26,7 @@ use Rattle.writer.specs.Ended.{readIn}
 use Rattle.writer.proofs.Placed.{Laid, was-laid, Sound, sound}
 use Rattle.writer.proofs.Named.{code-fits}
 use Rattle.writer.proofs.Ends.{Lies, lies}
-use Rattle.closing.proofs.Up.{bytes-take}
+use Rattle.fields.proofs.Law.{bytes-take}
 use Rattle.changing.specs.Adding.{Base, baseOf, addBase, addPlaced, addLeft, addAnswer, addLeaves, Added}
 use Rattle.book_laws.proofs.Good.{clean}
 use Rattle.book_laws.proofs.Live.{live-fines}

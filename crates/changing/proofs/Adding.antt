@@ -34,9 +34,10 @@ use Rattle.writer.specs.declared.Made.the-variants.{Length, Fault}
 use Rattle.writer.specs.Made.{placed, left, Placed, entryWith, newBytes, limitOf, codeUnder, keyed, stationFault, newFault}
 use Rattle.writer.specs.Ended.{shortened, readInBy}
 use Rattle.writer.proofs.Named.{name-taken}
+use Rattle.writer.proofs.Ends.{lies}
 use Rattle.closing.specs.Closing.{AllGood}
 use Rattle.closing.specs.Up.{entriesIn, liveOf}
-use Rattle.closing.proofs.Up.{bytes-take}
+use Rattle.fields.proofs.Law.{bytes-take}
 use Rattle.changing.specs.Adding.{baseOf, addBase, addPlaced, addLeft, addAnswer, addLeaves, AddedAs, Added, CodedAdded, Stands}
 use Rattle.changing.proofs.Room.{in-bad, in-short, in-good}
 
@@ -77,10 +78,6 @@ pub record Standing (room : List ℕ) (len : ℕ) (h : Header) (at : ℕ) (m : M
   pub entries : AllGood (entriesIn (h .format) room len at)
   pub lives : liveOf (h .format) (entriesIn (h .format) room len at) ≡ liveBytes (h .format) es
 
-pub was-good : (room : List ℕ) (len : ℕ) (b : Book) (n : ℕ) → len ≤ length room → readInBy (formats 1) room len ≡ good b n → readBookBy (formats 1) (take len room) ≡ good b n
-unfolding readInBy
-was-good room len b n h e = ap (λ (t : Bool). shortened t (readBookBy (formats 1) (take len room))) (sym (le-ltb (length room) len h)) ∙ e
-
 pub standing : (room : List ℕ) (len : ℕ) (h : Header) (at : ℕ) (m : Measure) → Stands room len h at m → Bytes room → Standing room len h at m
 unfolding written liveBytes
 standing room len h at m st bs = go (readInBy (formats 1) room len) refl (st .told)
@@ -91,7 +88,7 @@ standing room len h at m st bs = go (readInBy (formats 1) room len) refl (st .to
     by : (es : List Entry) (n : ℕ) → readInBy (formats 1) room len ≡ good (record { header = h; records = es }) n → at ≡ length (headerBytes h) → m ≡ measured (h .format) unmeasured es → Standing room len h at m
     by es n d f v =
         let b : Book = record { header = h; records = es } in
-        let r : readBookBy (formats 1) s ≡ good b n = was-good room len b n (st .fits) d in
+        let r : readBookBy (formats 1) s ≡ good b n = lies (formats 1) room len b n d .reads in
         let o = one-book (formats 1) s (bytes-take len room bs) b n r in
         let l = laid (formats 1) s b n r in
         let w : List ℕ = headerBytes h in

@@ -14,7 +14,7 @@ use Rattle.fields.specs.declared.Span.{Span}
 use Rattle.fields.specs.Got.{Got, good, bad}
 use Rattle.fields.specs.Put.{Put}
 use Rattle.fields.proofs.Put.{copied, sets-append}
-use Rattle.fields.proofs.Law.{bytes-drop}
+use Rattle.fields.proofs.Law.{bytes-drop, bytes-take}
 use Rattle.book.specs.declared.Cursor.{Cursor}
 use Rattle.book.specs.declared.Step.the-variants as step
 use Rattle.book.specs.Book.{Entry, entryBytes, readEntry, above, readEntries, liveBytes}
@@ -65,18 +65,6 @@ sets-still l to at n e h =
     ∙ append-assoc (take at l) x (drop n (drop at l)) ∙ ap (λ (y : List ℕ). take at l ++ y) (take-append-drop n (drop at l)) ∙ take-append-drop at l)
 
 -- ---- parts of lists
-pub bytes-take : (n : ℕ) (l : List ℕ) → Bytes l → Bytes (take n l)
-unfolding Bytes
-bytes-take n l b i = go (ltb i n) refl
-  where
-    go : (t : Bool) → ltb i n ≡ t → getD (take n l) i 0 < 256
-    go true e = rw (getD-take n l i 0 (ltb-true _ _ e)) (b i)
-    go false e = rw (List·getD-eq-default (take n l) 0 {n = i} (omega (arith, length-take n l, ltb-false i n e))) (omega arith)
-
-pub bytes : (l : List ℕ) → ((i : ℕ) → getD l i 0 < 256) → Bytes l
-unfolding Bytes
-bytes l h = h
-
 pub drop-take : (k len : ℕ) (l : List ℕ) → k ≤ len → len ≤ length l → drop k (take len l) ≡ take (len - k) (drop k l)
 drop-take k len l h j =
     let e : len ≡ k + (len - k) = omega arith in
@@ -122,6 +110,12 @@ module _ (room₀ : List ℕ) (len format from : ℕ) (fits : len ≤ length roo
 
   ahead-length : length l₀ ≡ len - at
   ahead-length = length-drop at (take len room₀) ∙ ap (λ (k : ℕ). k - at) (length-take-le len room₀ fits)
+
+  -- further on too it is as it was
+  ahead-on : (j : ℕ) → at ≤ j → drop j room ≡ drop j room₀
+  ahead-on j g =
+      let d : at + (j - at) ≡ j = omega arith in
+      ap (λ (i : ℕ). drop i room) (sym d) ∙ sym (drop-drop (j - at) at room) ∙ ap (drop (j - at)) (x .ahead) ∙ drop-drop (j - at) at room₀ ∙ ap (λ (i : ℕ). drop i room₀) d
 
   pub upto-end : len ≤ at → Put room₀ from (liveOf format (entriesIn format room₀ len from)) to room
   upto-end h =
@@ -186,9 +180,6 @@ module _ (room₀ : List ℕ) (len format from : ℕ) (fits : len ≤ length roo
             stored = sym (ap (sets room to) b) ∙ x .stored;
             sum = sym (ap (λ (j : List ℕ). to + length j) b) ∙ x .sum;
           }
-        where
-          ahead-on : (j : ℕ) → at ≤ j → drop j room ≡ drop j room₀
-          ahead-on j g = let d : at + (j - at) ≡ j = omega arith in ap (λ (i : ℕ). drop i room) (sym d) ∙ sym (drop-drop (j - at) at room) ∙ ap (drop (j - at)) (x .ahead) ∙ drop-drop (j - at) at room₀ ∙ ap (λ (i : ℕ). drop i room₀) d
 
       pub upto-kept : Bytes room₀ → k ≡ 1 → (room′ : List ℕ) → room′ ≡ sets room to (take (cur .at - at) (drop at room)) → Upto room₀ len format from room′ (cur .at) (to + (cur .at - at)) (cur .floor)
       upto-kept bs z room′ d =
@@ -207,6 +198,3 @@ module _ (room₀ : List ℕ) (len format from : ℕ) (fits : len ≤ length roo
             stored = (λ i. sets (c i) (s i) (liveBytes format (t .es′))) ∙ sets-append w room (liveBytes format (t .es′)) to ∙ sym (ap (sets room to) b) ∙ x .stored;
             sum = omega (arith, x .sum, ap length b, length-append w (liveBytes format (t .es′)), t .size);
           }
-        where
-          ahead-on : (j : ℕ) → at ≤ j → drop j room ≡ drop j room₀
-          ahead-on j g = let d : at + (j - at) ≡ j = omega arith in ap (λ (i : ℕ). drop i room) (sym d) ∙ sym (drop-drop (j - at) at room) ∙ ap (drop (j - at)) (x .ahead) ∙ drop-drop (j - at) at room₀ ∙ ap (λ (i : ℕ). drop i room₀) d

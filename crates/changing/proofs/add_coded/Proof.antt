@@ -8,7 +8,7 @@ use Rattle.writer.specs.Made.{entryWith, stationFault}
 use Rattle.writer.proofs.Placed.{placed-fault, placed-short, placed-good, too-large, too-low, no-fault}
 use Rattle.book.specs.declared.Header.{Header}
 use Rattle.book.specs.Book.{entryBytes}
-use Rattle.closing.proofs.Up.{bytes}
+use Rattle.fields.proofs.Law.{bytes}
 use Rattle.changing.proofs.Adding.{standing, added-never, added-behind, added-not-up, added-up}
 use Rattle.changing.proofs.add_coded.Statement.{statement}
 use Rattle.changing.proofs.add_coded.Tie as tie

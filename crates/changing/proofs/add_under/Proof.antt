@@ -7,7 +7,7 @@ use Rattle.encoder.specs.Numbers.{numberOf}
 use Rattle.encoder.proofs.Room.{never-three, never-four}
 use Rattle.writer.specs.Made.{newBytes, newFault}
 use Rattle.writer.proofs.Named.{codes-fit, name-too-long, name-not-ascii}
-use Rattle.closing.proofs.Up.{bytes}
+use Rattle.fields.proofs.Law.{bytes}
 use Rattle.changing.proofs.Adding.{standing, added-never, coded-added}
 use Rattle.changing.proofs.add_under.Statement.{statement}
 use Rattle.changing.proofs.add_under.Tie as tie

@@ -6,9 +6,10 @@ use borrow.Author.Needs.{needs}
 use denote.Ref.{now}
 use lib.ListN.{take, drop}
 use lib.Seq.{length-take-le}
+use Rattle.fields.proofs.Law.{bytes}
 use Rattle.book.specs.Book.{readEntry}
 use Rattle.book.proofs.Entries.{never-end}
-use Rattle.closing.proofs.Up.{bytes, Upto, upto-start, upto-end, upto-never, turn, upto-passed, upto-kept}
+use Rattle.closing.proofs.Up.{Upto, upto-start, upto-end, upto-never, turn, upto-passed, upto-kept}
 use Rattle.closing.proofs.close_up.Statement.{statement}
 use Rattle.closing.proofs.close_up.Tie as tie
 

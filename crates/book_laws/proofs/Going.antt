@@ -13,7 +13,7 @@ use Rattle.number.specs.Septets.{Bytes}
 use Rattle.encoder.specs.Numbers.{wordLimit}
 use Rattle.encoder.specs.Trim.{firstHigh}
 use Rattle.fields.specs.Got.{Got, good}
-use Rattle.fields.proofs.Law.{same}
+use Rattle.fields.proofs.Law.{same, bytes-take}
 use Rattle.book.specs.declared.Header.{Header}
 use Rattle.book.specs.declared.Measure.{Measure}
 use Rattle.book.specs.declared.Whole.the-variants as whole
@@ -30,9 +30,8 @@ use Rattle.writer.specs.Made.{placed, left, keyed, keyedEntry, newBytes, newFau
 use Rattle.writer.specs.Ended.{readInBy, readIn, endOf, GoodEnd, floorWhere, floorAt, placedAt, behind, Appended, lengthOf}
 use Rattle.writer.proofs.Placed.{Laid, was-laid}
 use Rattle.writer.proofs.Ends.{Lies, lies, no-end-fault, placed-on}
-use Rattle.fields.proofs.Law.{bytes-take}
-use Rattle.changing.specs.Adding.{baseOf, addBase, addPlaced, addLeft, addAnswer, addLeaves, Added}
-use Rattle.changing.proofs.Adding.{sets-same}
+use Rattle.changing.specs.Adding.{baseOf, addBase, addPlaced, addLeft, Added}
+use Rattle.changing.proofs.Adding.{sets-same, by-base}
 use Rattle.book_laws.proofs.Live.{one-base}
 use Rattle.book_laws.proofs.Grows.{Grown, add-reads}
 
@@ -92,12 +91,9 @@ module _ (room : List ℕ) (bs : Bytes room) (station : ℕ) (name : List ℕ) (
   there : Lies (formats 1) room len b n
   there = lies (formats 1) room len b n e
 
-  by-base : (t : Bool) → ltb (length room) (len + length w) ≡ t → (m : Made) (room′ : List ℕ) → m ≡ addPlaced fault room (baseOf t room len b) w
+  by-this : (t : Bool) → ltb (length room) (len + length w) ≡ t → (m : Made) (room′ : List ℕ) → m ≡ addPlaced fault room (baseOf t room len b) w
       → room′ ≡ addLeft (addPlaced fault room (baseOf t room len b) w) room (baseOf t room len b) w → Added room len station name m room′
-  by-base t d m room′ p q = record {
-    answer = p ∙ ap (λ (j : Bool). addPlaced fault room (baseOf j room len b) w) (sym d) ∙ sym (ap (addAnswer fault new room len) e);
-    leaves = q ∙ ap (λ (j : Bool). addLeft (addPlaced fault room (baseOf j room len b) w) room (baseOf j room len b) w) (sym d) ∙ sym (ap (addLeaves fault new room len) e);
-  }
+  by-this = by-base fault new room len b n e
 
   -- where it fits behind the end
   fits-is : len + length w ≤ length room → placedAt room end station name ≡ addPlaced fault room (baseOf false room len b) w
@@ -111,7 +107,7 @@ module _ (room : List ℕ) (bs : Bytes room) (station : ℕ) (name : List ℕ) (
 
   fits-adds : len + length w ≤ length room → (r : Ended) (room′ : List ℕ) → Appended room end station name r room′ → Added room len station name (lengthOf r) room′
   fits-adds k r room′ x =
-      by-base false (le-ltb (length room) (len + length w) k) (lengthOf r) room′ (ap lengthOf (x .answer) ∙ length-behind end station (placedAt room end station name) ∙ fits-is k)
+      by-this false (le-ltb (length room) (len + length w) k) (lengthOf r) room′ (ap lengthOf (x .answer) ∙ length-behind end station (placedAt room end station name) ∙ fits-is k)
       (x .leaves ∙ left-same (placedAt room end station name) ∙ ap (λ (m : Made). addLeft m room (baseOf false room len b) w) (fits-is k))
 
   -- where it does not, a fault before that of the room
@@ -119,7 +115,7 @@ module _ (room : List ℕ) (bs : Bytes room) (station : ℕ) (name : List ℕ) (
   refused f z t d g =
       let c : addPlaced fault room (baseOf t room len b) w ≡ Fault f =
       ap (λ (k : ℕ). placed k (length room) (length (baseOf t room len b .front)) w) g ∙ ap (λ (j : Bool). cond j (cond (ltb (length room) (length (baseOf t room len b .front) + length w)) (Fault 9) (Length (length (baseOf t room len b .front) + length w))) (Fault f)) (ne-eqb f 0 z) in
-      by-base t d (Fault f) room (sym c) (sym (ap (λ (m : Made). addLeft m room (baseOf t room len b) w) c))
+      by-this t d (Fault f) room (sym c) (sym (ap (λ (m : Made). addLeft m room (baseOf t room len b) w) c))
 
   short-fault : length room < len + length w → (f : ℕ) → (f ≡ 0 → ⊥) → fault (floorWhere false (b .header .format) floor) ≡ f → Added room len station name (Fault f) room
   short-fault k f z g = go (eqb (b .header .format) 1) refl g

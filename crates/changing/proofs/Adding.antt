@@ -1,5 +1,5 @@
 -- Adding, from what the functions' tests show. Assumes nothing.
-use Prim.Native.Nat.{ℕ, _+_, _≤_, _<_, min}
+use Prim.Native.Nat.{ℕ, _+_, _≤_, _<_}
 use mathlib.Core.Path.{_≡_, refl, sym, ap, ap₂, _∙_}
 use mathlib.Core.Bool.{Bool, true, false, cond}
 use mathlib.Core.List.{List, [], _∷_, _++_, append-assoc}
@@ -28,18 +28,18 @@ use Rattle.book.specs.declared.Whole.the-variants as whole
 use Rattle.book.specs.Book.{Entry, Book, headerBytes, entryBytes, written, formats, readEntries, readBookBy, live, liveBytes, floorOf}
 use Rattle.book.specs.Told.{measured, unmeasured, wholeBy}
 use Rattle.book.proofs.Book.{one-book, laid}
-use Rattle.book.proofs.Opening.{whole-told, whole-fault}
+use Rattle.book.proofs.Opening.{whole-fault}
 use Rattle.writer.specs.declared.Made.{Made}
 use Rattle.writer.specs.declared.Made.the-variants.{Length, Fault}
 use Rattle.writer.specs.Made.{placed, left, Placed, entryWith, newBytes, limitOf, codeUnder, keyed, stationFault, newFault}
-use Rattle.writer.specs.Ended.{shortened, readInBy}
+use Rattle.writer.specs.Ended.{readInBy, readIn}
 use Rattle.writer.proofs.Named.{name-taken}
 use Rattle.writer.proofs.Ends.{lies}
 use Rattle.closing.specs.Closing.{AllGood}
 use Rattle.closing.specs.Up.{entriesIn, liveOf}
 use Rattle.fields.proofs.Law.{bytes-take}
 use Rattle.changing.specs.Adding.{baseOf, addBase, addPlaced, addLeft, addAnswer, addLeaves, AddedAs, Added, CodedAdded, Stands}
-use Rattle.changing.proofs.Room.{in-bad, in-short, in-good}
+use Rattle.changing.proofs.Room.{inside}
 
 -- ---- bytes in front that stand there already
 pub sets-same : (l x : List ℕ) (k : ℕ) → k ≤ length l → sets l 0 (take k l ++ x) ≡ sets l k x
@@ -118,7 +118,17 @@ standing room len h at m st bs = go (readInBy (formats 1) room len) refl (st .to
         let v : m ≡ measured (b .header .format) unmeasured (b .records) = cc in
         by (b .records) n (d ∙ (λ i. good (record { header = p i; records = b .records }) n)) (f ∙ ap (λ (k : Header). length (headerBytes k)) p) (v ∙ ap (λ (k : Header). measured (k .format) unmeasured (b .records)) p)
 
--- ---- what was added
+-- ---- what was added, by the base that it goes behind
+pub by-base : (fault : ℕ → ℕ) (new : Header → List ℕ) (room : List ℕ) (len : ℕ) (b : Book) (n : ℕ) → readIn room len ≡ good b n
+    → (t : Bool) → ltb (length room) (len + length (new (b .header))) ≡ t → (r : Made) (room′ : List ℕ) → r ≡ addPlaced fault room (baseOf t room len b) (new (b .header))
+    → room′ ≡ addLeft (addPlaced fault room (baseOf t room len b) (new (b .header))) room (baseOf t room len b) (new (b .header)) → AddedAs fault new room len r room′
+by-base fault new room len b n e t d r room′ p q =
+    let w : List ℕ = new (b .header) in
+    record {
+      answer = p ∙ ap (λ (j : Bool). addPlaced fault room (baseOf j room len b) w) (sym d) ∙ sym (ap (addAnswer fault new room len) e);
+      leaves = q ∙ ap (λ (j : Bool). addLeft (addPlaced fault room (baseOf j room len b) w) room (baseOf j room len b) w) (sym d) ∙ sym (ap (addLeaves fault new room len) e);
+    }
+
 module _ (fault : ℕ → ℕ) (new : Header → List ℕ) (room : List ℕ) (len : ℕ) (h : Header) (at : ℕ) (m : Measure) (fits : len ≤ length room) (x : Standing room len h at m) where
   abbrev W : List ℕ
   W = new h
@@ -126,12 +136,9 @@ module _ (fault : ℕ → ℕ) (new : Header → List ℕ) (room : List ℕ) (le
   abbrev b₀ : Book
   b₀ = record { header = h; records = x .es }
 
-  by-base : (t : Bool) → ltb (length room) (len + length W) ≡ t → (r : Made) (room′ : List ℕ) → r ≡ addPlaced fault room (baseOf t room len b₀) W
+  by-this : (t : Bool) → ltb (length room) (len + length W) ≡ t → (r : Made) (room′ : List ℕ) → r ≡ addPlaced fault room (baseOf t room len b₀) W
       → room′ ≡ addLeft (addPlaced fault room (baseOf t room len b₀) W) room (baseOf t room len b₀) W → AddedAs fault new room len r room′
-  by-base t d r room′ p q = record {
-    answer = p ∙ ap (λ (j : Bool). addPlaced fault room (baseOf j room len b₀) W) (sym d) ∙ sym (ap (addAnswer fault new room len) (x .is));
-    leaves = q ∙ ap (λ (j : Bool). addLeft (addPlaced fault room (baseOf j room len b₀) W) room (baseOf j room len b₀) W) (sym d) ∙ sym (ap (addLeaves fault new room len) (x .is));
-  }
+  by-this = by-base fault new room len b₀ (x .n) (x .is)
 
   -- a fault whatever the floor is
   pub added-never : (f : ℕ) → ((floor : ℕ) → f ≡ fault floor) → (f ≡ 0 → ⊥) → AddedAs fault new room len (Fault f) room
@@ -140,14 +147,14 @@ module _ (fault : ℕ → ℕ) (new : Header → List ℕ) (room : List ℕ) (le
       go : (t : Bool) → ltb (length room) (len + length W) ≡ t → AddedAs fault new room len (Fault f) room
       go t d =
           let c : addPlaced fault room (baseOf t room len b₀) W ≡ Fault f = ap (λ (k : ℕ). placed k (length room) (length (baseOf t room len b₀ .front)) W) (sym (e (floorOf 0 (baseOf t room len b₀ .records)))) ∙ rw (ne-eqb f 0 z) in
-          by-base t d (Fault f) room (sym c) (sym (ap (λ (k : Made). addLeft k room (baseOf t room len b₀) W) c))
+          by-this t d (Fault f) room (sym c) (sym (ap (λ (k : Made). addLeft k room (baseOf t room len b₀) W) c))
 
   -- it fits as the book stands
   pub added-behind : len + length W ≤ length room → (r : Made) (room′ : List ℕ) → Placed (fault (m .floor)) room len W r room′ → AddedAs fault new room len r room′
   added-behind k r room′ p =
       let c : placed (fault (m .floor)) (length room) len W ≡ addPlaced fault room (baseOf false room len b₀) W =
       (λ i. placed (fault (x .floor i)) (length room) (sym (length-take-le len room fits) i) W) in
-      by-base false (le-ltb (length room) (len + length W) k) r room′ (p .answer ∙ c)
+      by-this false (le-ltb (length room) (len + length W) k) r room′ (p .answer ∙ c)
       (p .leaves ∙ same (placed (fault (m .floor)) (length room) len W) ∙ ap (λ (y : Made). addLeft y room (baseOf false room len b₀) W) c)
     where
       same : (y : Made) → left y room len W ≡ addLeft y room (baseOf false room len b₀) W
@@ -162,7 +169,7 @@ module _ (fault : ℕ → ℕ) (new : Header → List ℕ) (room : List ℕ) (le
     pub added-not-up : (f : ℕ) → Placed (fault (m .least)) room (at + m .size) W (Fault f) room → AddedAs fault new room len (Fault f) room
     added-not-up f p =
         let c : addPlaced fault room (baseOf true room len b₀) W ≡ Fault f = sym up-is ∙ sym (p .answer) in
-        by-base true (lt-ltb (length room) (len + length W) k) (Fault f) room (sym c) (sym (ap (λ (y : Made). addLeft y room (baseOf true room len b₀) W) c))
+        by-this true (lt-ltb (length room) (len + length W) k) (Fault f) room (sym c) (sym (ap (λ (y : Made). addLeft y room (baseOf true room len b₀) W) c))
 
     pub added-up : fault (m .least) ≡ 0 → at + m .size + length W ≤ length room → (j : ℕ) (mid : List ℕ) → Put room at (liveOf (h .format) (entriesIn (h .format) room len at)) j mid
         → (r : ℕ) (room′ : List ℕ) → Put mid (at + m .size) W r room′ → AddedAs fault new room len (Length r) room′
@@ -177,7 +184,7 @@ module _ (fault : ℕ → ℕ) (new : Header → List ℕ) (room : List ℕ) (le
         let g : room′ ≡ sets room 0 ((w ++ v) ++ W) =
         q .leaves ∙ (λ i. sets (e i) (u i) W) ∙ sets-append v room W at ∙ sym (sets-same room (v ++ W) at (omega (arith, x .low, fits)))
         ∙ ap (λ (y : List ℕ). sets room 0 (y ++ (v ++ W))) (x .front) ∙ ap (sets room 0) (sym (append-assoc w v W)) in
-        by-base true (lt-ltb (length room) (len + length W) k) (Length r) room′ (sym c) (g ∙ sym (ap (λ (y : Made). addLeft y room (baseOf true room len b₀) W) c))
+        by-this true (lt-ltb (length room) (len + length W) k) (Length r) room′ (sym c) (g ∙ sym (ap (λ (y : Made). addLeft y room (baseOf true room len b₀) W) c))
 
 -- ---- the same entry and faults under other names
 module _ (fault fault′ : ℕ → ℕ) (new new′ : Header → List ℕ) (room : List ℕ) (len : ℕ) (h : Header) (at : ℕ) (m : Measure) (x : Standing room len h at m) where
@@ -196,20 +203,11 @@ module _ (fault fault′ : ℕ → ℕ) (new new′ : Header → List ℕ) (room
 pub added-unread : (fault : ℕ → ℕ) (new : Header → List ℕ) (room : List ℕ) (len f : ℕ) → readInBy (formats 1) room len ≡ bad f → AddedAs fault new room len (Fault f) room
 added-unread fault new room len f e = record { answer = sym (ap (addAnswer fault new room len) e); leaves = sym (ap (addLeaves fault new room len) e) }
 
-module _ (room : List ℕ) (len there : ℕ) (t : there ≡ min len (length room)) where
-  pub add-unread : (fault : ℕ → ℕ) (new : Header → List ℕ) (f : ℕ) → wholeBy (readBookBy (formats 1) (take there room)) ≡ whole.Fault f → AddedAs fault new room len (Fault f) room
-  add-unread fault new f e = added-unread fault new room len f (in-bad (formats 1) room len there t f (whole-fault f (readBookBy (formats 1) (take there room)) e))
+pub add-unread : (room : List ℕ) (len : ℕ) (fault : ℕ → ℕ) (new : Header → List ℕ) (f : ℕ) → wholeBy (readIn room len) ≡ whole.Fault f → AddedAs fault new room len (Fault f) room
+add-unread room len fault new f e = added-unread fault new room len f (whole-fault f (readIn room len) e)
 
-  module _ (h : Header) (first : ℕ) (m : Measure) (e : wholeBy (readBookBy (formats 1) (take there room)) ≡ whole.Book h first m) where
-    pub add-short : (fault : ℕ → ℕ) (new : Header → List ℕ) → length room < len → AddedAs fault new room len (Fault 6) room
-    add-short fault new l =
-        let x = whole-told (formats 1) (take there room) h first m e in
-        added-unread fault new room len 6 (in-short (formats 1) room len there t (x .b) (x .n) (x .is) l)
-
-    pub add-stands : len ≤ length room → Stands room len h first m
-    add-stands l =
-        let x = whole-told (formats 1) (take there room) h first m e in
-        record { fits = l; told = ap wholeBy (in-good (formats 1) room len there t (x .b) (x .n) (x .is) l) ∙ sym (ap wholeBy (x .is)) ∙ e }
+pub add-stands : (room : List ℕ) (len : ℕ) (h : Header) (first : ℕ) (m : Measure) → wholeBy (readIn room len) ≡ whole.Book h first m → Stands room len h first m
+add-stands room len h first m e = record { fits = inside (formats 1) room len h first m e .fits; told = e }
 
 -- ---- the codes that were made with the encoder y, under the header
 module _ {y : Encoder} {ed : Edition} {l : Limit} {w p a p′ a′ cp ca : List ℕ} {r : Answer} (h : Header) (made : y ≡ encoderOf ed l) (by : ed ≡ editionOf (h .edition)) (under : l ≡ limitOf (h .cut)) (e : Encoded (y .edition) (y .limit) w p a r p′ a′)

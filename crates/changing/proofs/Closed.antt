@@ -1,5 +1,5 @@
 -- Closing a station, from what the function's tests show. Assumes nothing.
-use Prim.Native.Nat.{ℕ, _≤_, _<_, min}
+use Prim.Native.Nat.{ℕ, _≤_}
 use mathlib.Core.Path.{_≡_, refl, sym, ap, _∙_}
 use mathlib.Core.List.{List}
 use native.Mathlib.Omega.{arith}
@@ -8,7 +8,7 @@ use Rattle.fields.specs.Got.{Got, good, bad}
 use Rattle.book.specs.declared.Header.{Header}
 use Rattle.book.specs.declared.Measure.{Measure}
 use Rattle.book.specs.declared.Whole.the-variants as whole
-use Rattle.book.specs.Book.{Entry, Book, headerBytes, formats, readEntries, readBookBy}
+use Rattle.book.specs.Book.{Entry, Book, headerBytes, formats, readEntries}
 use Rattle.book.specs.Told.{wholeBy}
 use Rattle.book.proofs.Opening.{whole-told, whole-fault}
 use Rattle.writer.specs.declared.Made.the-variants.{Length, Fault}
@@ -17,40 +17,41 @@ use Rattle.closing.specs.declared.Place.{Place}
 use Rattle.closing.specs.declared.Place.the-variants as place
 use Rattle.closing.specs.Closing.{kindPlace, AllGood, placeTold, soughtBy, Sought}
 use Rattle.changing.specs.Closed.{closeAnswer, closeLeaves, Closed}
-use Rattle.changing.proofs.Room.{in-bad, in-short, in-good}
+use Rattle.changing.proofs.Room.{Inside, inside}
 
-module _ (room : List ℕ) (len station there : ℕ) (t : there ≡ min len (length room)) where
+module _ (room : List ℕ) (len station : ℕ) where
   closed-not : (f : ℕ) → kindPlace station (readInBy (formats 2) room len) ≡ bad f → Closed room len station (Fault f) room
   closed-not f e = record { answer = sym (ap (closeAnswer len) e); leaves = sym (ap (closeLeaves room) e) }
 
-  pub close-unread : (f : ℕ) → wholeBy (readBookBy (formats 2) (take there room)) ≡ whole.Fault f → Closed room len station (Fault f) room
-  close-unread f e = closed-not f (ap (kindPlace station) (in-bad (formats 2) room len there t f (whole-fault f (readBookBy (formats 2) (take there room)) e)))
+  pub close-unread : (f : ℕ) → wholeBy (readInBy (formats 2) room len) ≡ whole.Fault f → Closed room len station (Fault f) room
+  close-unread f e = closed-not f (ap (kindPlace station) (whole-fault f (readInBy (formats 2) room len) e))
 
-  module _ (h : Header) (first : ℕ) (m : Measure) (e : wholeBy (readBookBy (formats 2) (take there room)) ≡ whole.Book h first m) where
+  module _ (h : Header) (first : ℕ) (m : Measure) (e : wholeBy (readInBy (formats 2) room len) ≡ whole.Book h first m) where
     abbrev J : ℕ → ℕ
     J = formats 2
 
-    pub close-short : length room < len → Closed room len station (Fault 6) room
-    close-short l =
-        let x = whole-told J (take there room) h first m e in
-        closed-not 6 (ap (kindPlace station) (in-short J room len there t (x .b) (x .n) (x .is) l))
+    there : Inside J room len (whole.Book h first m)
+    there = inside J room len h first m e
 
-    pub good-entries : AllGood (readEntries (h .format) 0 (drop first (take there room)))
+    pub close-fits : len ≤ length room
+    close-fits = there .fits
+
+    pub good-entries : AllGood (readEntries (h .format) 0 (drop first (take len room)))
     good-entries =
-        let x = whole-told J (take there room) h first m e in
-        record { es = x .b .records; n = x .used; is = (λ i. readEntries (sym (x .header) i .format) 0 (drop (x .first i) (take there room))) ∙ x .records }
+        let x = whole-told J (take len room) h first m (there .told) in
+        record { es = x .b .records; n = x .used; is = (λ i. readEntries (sym (x .header) i .format) 0 (drop (x .first i) (take len room))) ∙ x .records }
 
-    place-is : len ≤ length room → (r : Place) → Sought (take there room) (h .format) station first r → r ≡ placeTold (kindPlace station (readInBy J room len))
-    place-is l r q =
-        let x = whole-told J (take there room) h first m e in
+    place-is : (r : Place) → Sought (take len room) (h .format) station first r → r ≡ placeTold (kindPlace station (readInBy J room len))
+    place-is r q =
+        let x = whole-told J (take len room) h first m (there .told) in
         let b : Book = x .b in
         q .answer
-        ∙ (λ i. placeTold (soughtBy (sym (x .header) i .format) station (x .first i) (readEntries (sym (x .header) i .format) 0 (drop (x .first i) (take there room)))))
+        ∙ (λ i. placeTold (soughtBy (sym (x .header) i .format) station (x .first i) (readEntries (sym (x .header) i .format) 0 (drop (x .first i) (take len room)))))
         ∙ ap (λ (y : Got (List Entry)). placeTold (soughtBy (b .header .format) station (length (headerBytes (b .header))) y)) (x .records)
-        ∙ sym (ap (λ (y : Got Book). placeTold (kindPlace station y)) (in-good J room len there t b (x .n) (x .is) l))
+        ∙ sym (ap (λ (y : Got Book). placeTold (kindPlace station y)) (there .same ∙ x .is))
 
-    pub close-at : len ≤ length room → (p : ℕ) (r : Place) → Sought (take there room) (h .format) station first r → r ≡ place.At p → Closed room len station (Length len) (set room p 0)
-    close-at l p r q d = go (kindPlace station (readInBy J room len)) refl (sym d ∙ place-is l r q)
+    pub close-at : (p : ℕ) (r : Place) → Sought (take len room) (h .format) station first r → r ≡ place.At p → Closed room len station (Length len) (set room p 0)
+    close-at p r q d = go (kindPlace station (readInBy J room len)) refl (sym d ∙ place-is r q)
       where
         go : (y : Got ℕ) → kindPlace station (readInBy J room len) ≡ y → place.At p ≡ placeTold y → Closed room len station (Length len) (set room p 0)
         go (bad f) c k = let z : _≡_ {A = ℕ} 0 1 = cc in absurd (omega arith)
@@ -58,8 +59,8 @@ module _ (room : List ℕ) (len station there : ℕ) (t : there ≡ min len (len
             let u : p ≡ j = cc in
             record { answer = sym (ap (closeAnswer len) c); leaves = ap (λ (i : ℕ). set room i 0) u ∙ sym (ap (closeLeaves room) c) }
 
-    pub close-none : len ≤ length room → (f : ℕ) (r : Place) → Sought (take there room) (h .format) station first r → r ≡ place.Fault f → Closed room len station (Fault f) room
-    close-none l f r q d = go (kindPlace station (readInBy J room len)) refl (sym d ∙ place-is l r q)
+    pub close-none : (f : ℕ) (r : Place) → Sought (take len room) (h .format) station first r → r ≡ place.Fault f → Closed room len station (Fault f) room
+    close-none f r q d = go (kindPlace station (readInBy J room len)) refl (sym d ∙ place-is r q)
       where
         go : (y : Got ℕ) → kindPlace station (readInBy J room len) ≡ y → place.Fault f ≡ placeTold y → Closed room len station (Fault f) room
         go (good j n) c k = let z : _≡_ {A = ℕ} 0 1 = cc in absurd (omega arith)

@@ -5,7 +5,10 @@ ghost use mathlib.Core.Path.{_≡_};
 ghost use Prim.Native.Nat.{_≤_};
 ghost use lib.ListN.{length};
 ghost use Rattle.encoder.specs.Numbers.{wordLimit};
+ghost use Rattle.book.specs.Book.{formats};
+ghost use Rattle.book.specs.Told.{wholeBy};
 ghost use Rattle.writer.specs.Made.{codeRoom};
+ghost use Rattle.writer.specs.Ended.{readInBy};
 ghost use Rattle.changing.specs.Adding.{Stands, CodedAdded, Added};
 ghost use Rattle.changing.specs.Closed.{Closed};
 use book::Header;
@@ -104,12 +107,12 @@ fn add_under(
     }
 }
 
-// Adds a record to the book in the first `len` bytes of the room, which are read first.
-pub fn add(room: &mut [u8], len: usize, station: u64, name: &[u8]) -> Made
-    ensures { λ r. ⌜ Added (now (room .entry)) len station (now (name .entry)) r (now (room .exit)) ⌝ }
+// Reads the book in the first `len` bytes of the room, of a format from `least` on. A stated length beyond the room is a short book.
+fn read_in(room: &[u8], len: usize, least: u32) -> Whole
+    ensures { λ r. ⌜ r ≡ wholeBy (readInBy (formats least) (now (room .entry)) len) ⌝ }
 {
     let there = fields::least(len, room.len());
-    let whole = book::read(&room[..there], 1);
+    let whole = book::read(&room[..there], least);
     match whole {
         Whole::Book {
             header,
@@ -117,10 +120,29 @@ pub fn add(room: &mut [u8], len: usize, station: u64, name: &[u8]) -> Made
             measure,
         } => {
             if room.len() < len {
-                return Made::Fault(6);
+                return Whole::Fault(6);
             }
-            add_under(room, len, header, first, measure, station, name)
+            Whole::Book {
+                header,
+                first,
+                measure,
+            }
         }
+        Whole::Fault(f) => Whole::Fault(f),
+    }
+}
+
+// Adds a record to the book in the first `len` bytes of the room, which are read first.
+pub fn add(room: &mut [u8], len: usize, station: u64, name: &[u8]) -> Made
+    ensures { λ r. ⌜ Added (now (room .entry)) len station (now (name .entry)) r (now (room .exit)) ⌝ }
+{
+    let whole = read_in(room, len, 1);
+    match whole {
+        Whole::Book {
+            header,
+            first,
+            measure,
+        } => add_under(room, len, header, first, measure, station, name),
         Whole::Fault(f) => Made::Fault(f),
     }
 }
@@ -129,18 +151,14 @@ pub fn add(room: &mut [u8], len: usize, station: u64, name: &[u8]) -> Made
 pub fn close(room: &mut [u8], len: usize, station: u64) -> Made
     ensures { λ r. ⌜ Closed (now (room .entry)) len station r (now (room .exit)) ⌝ }
 {
-    let there = fields::least(len, room.len());
-    let whole = book::read(&room[..there], 2);
+    let whole = read_in(room, len, 2);
     match whole {
         Whole::Book {
             header,
             first,
             measure: _,
         } => {
-            if room.len() < len {
-                return Made::Fault(6);
-            }
-            let found = closing::find_live(&room[..there], first, header.format, station);
+            let found = closing::find_live(&room[..len], first, header.format, station);
             match found {
                 Place::At(place) => {
                     room[place] = 0;

@@ -1,4 +1,4 @@
--- Records measured one after another, to the end of the book. Assumes nothing.
+-- Records measured one after another, to the end of the book.
 use Prim.Native.Nat.{ℕ, _+_, _-_, _≤_, _<_}
 use mathlib.Core.Path.{_≡_, refl, sym, ap, _∙_}
 use mathlib.Core.List.{List, [], _∷_, _++_}
@@ -6,17 +6,19 @@ use native.Mathlib.Omega.{arith}
 use borrow.Author.Tests.{ne-eqb}
 use lib.ListN.{length, drop, length-append, length-drop, drop-of-length-le}
 use lib.Seq.{drop-drop}
-use Rattle.fields.specs.declared.Span.{Span}
+use Rattle.slices.specs.declared.Span.{Span}
 use Rattle.fields.specs.Got.{Got, good, bad, grown, readAll}
 use Rattle.fields.proofs.All as all
-use Rattle.book.specs.declared.Cursor.{Cursor}
-use Rattle.book.specs.declared.Step.the-variants as step
+use Rattle.header.specs.declared.Cursor.{Cursor}
+use Rattle.entry.specs.declared.Step.the-variants as step
 use Rattle.book.specs.declared.Measure.{Measure}
 use Rattle.book.specs.declared.Survey.the-variants as survey
-use Rattle.book.specs.Book.{Entry, entryBytes, readEntry, above, readEntries, live, liveBytes, floorOf}
-use Rattle.book.specs.Told.{stepAt, surveyed}
-use Rattle.book.proofs.Book.{entry-law, some-entry}
-use Rattle.book.proofs.Entries.{step-told, step-fault}
+use Rattle.entry.specs.Entry.{Entry, entryBytes, readEntry, above}
+use Rattle.book.specs.Book.{readEntries, live, liveBytes, floorOf}
+use Rattle.entry.specs.Told.{stepAt}
+use Rattle.book.specs.Told.{surveyed}
+use Rattle.entry.proofs.Entry.{entry-law, some-entry}
+use Rattle.entry.proofs.Kind.{step-told, step-fault}
 
 -- ---- the live ones
 module _ (format : ℕ) (e : Entry) (es : List Entry) where

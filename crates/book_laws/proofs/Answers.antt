@@ -1,4 +1,4 @@
--- Every sequence of bytes is a book or shows one of six faults. Assumes nothing.
+-- Every sequence of bytes is a book or shows one of six faults.
 use Prim.Native.Nat.{ℕ}
 use mathlib.Core.Path.{_≡_, refl, sym}
 use mathlib.Core.Bool.{Bool, true, false, cond}
@@ -7,14 +7,16 @@ use native.Mathlib.Omega.{arith}
 use lib.Dec.{ltb, leb, eqb}
 use lib.ListN.{drop}
 use Rattle.number.specs.Septets.{Bytes}
-use Rattle.encoder.specs.Numbers.{wordLimit}
+use Rattle.terms.specs.Limits.{wordLimit}
 use Rattle.fields.specs.Got.{Got, good, bad, readBoth}
 use Rattle.fields.specs.Field.{readNumber, readText, any}
 use Rattle.fields.proofs.Law.{same-fault}
 use Rattle.fields.proofs.Faults.{Only, Judged, only-number, only-text, only-both, only-mapped, only-all}
-use Rattle.encoder.specs.Editions.{lastEdition}
-use Rattle.book.specs.declared.Header.{Header}
-use Rattle.book.specs.Book.{Entry, Book, known, lastFormat, formats, editions, kinds, rising, nameLength, nameByte, headerOf, recordOf, entryOf, readHeaderBy, readRecord, readKind, readEntry, above, readEntries, under, behindHeader, readBookBy, readBook}
+use Rattle.terms.specs.Editions.{lastEdition, lastFormat}
+use Rattle.header.specs.declared.Header.{Header}
+use Rattle.entry.specs.Entry.{Entry, kinds, rising, nameLength, nameByte, recordOf, entryOf, readRecord, readKind, readEntry, above}
+use Rattle.book.specs.Book.{Book, readEntries, under, behindHeader, readBookBy, readBook}
+use Rattle.header.specs.Head.{known, formats, editions, headerOf, readHeaderBy}
 use Rattle.book_laws.specs.Answers.{isFault, Answer, reads, shows}
 use Rattle.book.proofs.Book.{one-book}
 
@@ -111,9 +113,9 @@ book-faults least l f e = go (readHeaderBy (formats least) l) refl e
     go (bad g) d e = rw (sym (same-fault e)) (header-faults least l g d)
     go (good h n) d e = next h n (readEntries (h .format) 0 (drop n l)) (entries-faults (h .format) 0 (drop n l)) e
 
--- ---- THE READER answers for every sequence of bytes
-pub answers : (l : List ℕ) → Bytes l → Answer l (readBook l)
-answers l bs = go (readBook l) refl
+-- ---- THE READER book-answers for every sequence of bytes
+pub book-answers : (l : List ℕ) → Bytes l → Answer l (readBook l)
+book-answers l bs = go (readBook l) refl
   where
     go : (x : Got Book) → readBook l ≡ x → Answer l x
     go (good b n) e = rw (one-book (formats 1) l bs b n e .used) (reads b)

@@ -1,4 +1,4 @@
--- Closing a station: one byte changes, and the book reads as before but for that record's kind; when it is refused. Assumes nothing.
+-- Closing a station: one byte changes, and the book reads as before but for that record's kind; when it is refused.
 use Prim.Native.Nat.{ℕ, _+_, _<_}
 use mathlib.Core.Path.{_≡_, refl, sym, ap, _∙_}
 use mathlib.Core.Bool.{Bool, true, false, cond, _&&_, _||_}
@@ -11,19 +11,22 @@ use lib.Seq.{set-at, getD-at, getD-set-other, getD-take, length-take-le, take-se
 use Rattle.number.specs.Septets.{Bytes}
 use Rattle.fields.specs.Got.{Got, good, bad, writeAll}
 use Rattle.fields.specs.Field.{number}
-use Rattle.fields.proofs.Law.{never, same}
+use Rattle.fields.proofs.Law.{never, same, bytes-take}
 use Rattle.fields.proofs.All as all
-use Rattle.book.specs.declared.Header.{Header}
-use Rattle.book.specs.Book.{Entry, Book, headerBytes, recordBytes, kindBytes, entryBytes, written, lastFormat, formats, above, readBookBy, isLive}
-use Rattle.book.proofs.Book.{spelt, FineEntry, FineEntries, FineHeader, reads-back, OneBook, one-book}
-use Rattle.book.proofs.Told.{known-good}
-use Rattle.writer.specs.declared.Made.{Made}
-use Rattle.writer.specs.declared.Made.the-variants.{Length, Fault}
-use Rattle.writer.specs.Ended.{readInBy, readIn}
-use Rattle.writer.proofs.Ends.{Lies, lies}
+use Rattle.header.specs.declared.Header.{Header}
+use Rattle.entry.specs.Entry.{Entry, recordBytes, kindBytes, entryBytes, above, isLive}
+use Rattle.book.specs.Book.{Book, written, readBookBy}
+use Rattle.header.specs.Head.{headerBytes, formats}
+use Rattle.terms.specs.Editions.{lastFormat}
+use Rattle.entry.proofs.Entry.{spelt, FineEntry}
+use Rattle.book.proofs.Book.{FineEntries, reads-back, OneBook, one-book}
+use Rattle.header.proofs.Head.{FineHeader, known-good}
+use Rattle.putting.specs.declared.Made.{Made}
+use Rattle.putting.specs.declared.Made.the-variants.{Length, Fault}
+use Rattle.book.specs.Room.{readInBy, readIn}
+use Rattle.book.proofs.Room.{Lies, lies}
 use Rattle.closing.specs.Closing.{meant, closed, closedIn, placeOf, kindPlace}
-use Rattle.fields.proofs.Law.{bytes-take}
-use Rattle.changing.specs.Closed.{closeAnswer, closeLeaves, Closed}
+use Rattle.closing.specs.Closed.{closeAnswer, closeLeaves, Closed}
 use Rattle.book_laws.specs.Closing.{hasLive}
 use Rattle.book_laws.proofs.Good.{not-below, is-known}
 

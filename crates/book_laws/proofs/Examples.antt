@@ -4,14 +4,17 @@ use mathlib.Core.Path.{_≡_, refl}
 use mathlib.Core.List.{List, [], _∷_, _++_}
 use Rattle.fields.specs.Got.{good, bad}
 use Rattle.fields.specs.Field.{number, text, readNumber, readText, readBytes}
-use Rattle.book.specs.declared.Header.{Header}
-use Rattle.book.specs.Book.{Entry, headerBytes, recordBytes, kindBytes, entryBytes, written, formats, readRecord, readKind, readEntry, readEntries, readHeaderBy, readBookBy, readBook}
+use Rattle.header.specs.declared.Header.{Header}
+use Rattle.entry.specs.Entry.{Entry, recordBytes, kindBytes, entryBytes, readRecord, readKind, readEntry}
+use Rattle.header.specs.Head.{headerBytes, formats, readHeaderBy}
+use Rattle.book.specs.Book.{written, readEntries, readBookBy, readBook}
 use Rattle.closing.specs.Closing.{closedIn, kindPlace}
-use Rattle.writer.specs.declared.Made.the-variants.{Length, Fault}
-use Rattle.writer.specs.Made.{recordWith, entryWith, stationFault}
-use Rattle.writer.specs.Ended.{readInBy, readIn}
-use Rattle.changing.specs.Adding.{addAnswer, addLeaves}
-use Rattle.changing.specs.Closed.{closeLeaves}
+use Rattle.putting.specs.declared.Made.the-variants.{Length, Fault}
+use Rattle.putting.specs.Laid.{recordWith, entryWith}
+use Rattle.placing.specs.Placing.{stationFault}
+use Rattle.book.specs.Room.{readInBy, readIn}
+use Rattle.placing.specs.Base.{addAnswer, addLeaves}
+use Rattle.closing.specs.Closed.{closeLeaves}
 
 abbrev head : ℕ → Header
 head format = record { format = format; edition = 2; cut = 0 }

@@ -1,5 +1,5 @@
 -- Going on from a known end, and adding: what the first answers is what the second does, but for a 9; and it ends at the end of the longer
--- book. Assumes nothing.
+-- book.
 use Prim.Native.Nat.{ℕ, _+_, _^_, _≤_, _<_}
 use mathlib.Core.Path.{_≡_, refl, sym, ap, subst, _∙_}
 use mathlib.Core.Bool.{Bool, true, false, cond}
@@ -10,29 +10,36 @@ use lib.Dec.{ltb, leb, eqb}
 use lib.ListN.{length, take}
 use lib.Seq.{length-take-le, length-sets}
 use Rattle.number.specs.Septets.{Bytes}
-use Rattle.encoder.specs.Numbers.{wordLimit}
-use Rattle.encoder.specs.Trim.{firstHigh}
+use Rattle.terms.specs.Limits.{wordLimit}
+use Rattle.prepare.specs.Trim.{firstHigh}
 use Rattle.fields.specs.Got.{Got, good}
 use Rattle.fields.proofs.Law.{same, bytes-take}
-use Rattle.book.specs.declared.Header.{Header}
+use Rattle.header.specs.declared.Header.{Header}
 use Rattle.book.specs.declared.Measure.{Measure}
-use Rattle.book.specs.declared.Whole.the-variants as whole
-use Rattle.book.specs.Book.{Entry, Book, formats, above, readBook, floorOf}
+use Rattle.book.specs.declared.Reading.the-variants as whole
+use Rattle.entry.specs.Entry.{Entry, above}
+use Rattle.book.specs.Book.{Book, readBook, floorOf}
+use Rattle.header.specs.Head.{formats}
 use Rattle.book.specs.Told.{wholeBy}
 use Rattle.book.proofs.Book.{OneBook, one-book}
 use Rattle.book.proofs.Opening.{whole-told}
-use Rattle.writer.specs.declared.End.{End}
-use Rattle.writer.specs.declared.Ended.{Ended}
-use Rattle.writer.specs.declared.Ended.the-variants as ended
-use Rattle.writer.specs.declared.Made.{Made}
-use Rattle.writer.specs.declared.Made.the-variants.{Length, Fault}
-use Rattle.writer.specs.Made.{placed, left, keyed, keyedEntry, newBytes, newFault}
-use Rattle.writer.specs.Ended.{readInBy, readIn, endOf, GoodEnd, floorWhere, floorAt, placedAt, behind, Appended, lengthOf}
-use Rattle.writer.proofs.Placed.{Laid, was-laid}
-use Rattle.writer.proofs.Ends.{Lies, lies, no-end-fault, placed-on}
-use Rattle.changing.specs.Adding.{baseOf, addBase, addPlaced, addLeft, Added}
-use Rattle.changing.proofs.Adding.{sets-same, by-base}
-use Rattle.book_laws.proofs.Live.{one-base}
+use Rattle.book.specs.declared.End.{End}
+use Rattle.book.specs.declared.Ended.{Ended}
+use Rattle.book.specs.declared.Ended.the-variants as ended
+use Rattle.putting.specs.declared.Made.{Made}
+use Rattle.putting.specs.declared.Made.the-variants.{Length, Fault}
+use Rattle.putting.specs.Laid.{placed, left}
+use Rattle.keying.specs.Keyed.{keyed, keyedEntry, newBytes, newFault}
+use Rattle.book.specs.Room.{readInBy, readIn}
+use Rattle.appending.specs.Ended.{endOf, GoodEnd, floorAt, placedAt, behind, Appended, lengthOf}
+use Rattle.placing.specs.Placing.{floorWhere}
+use Rattle.keying.proofs.Keyed.{Laid, was-laid}
+use Rattle.book.proofs.Room.{Lies, lies}
+use Rattle.appending.proofs.Ends.{no-end-fault, placed-on}
+use Rattle.placing.specs.Base.{baseOf, addBase, addPlaced, addLeft}
+use Rattle.adding.specs.Adding.{Added}
+use Rattle.placing.proofs.Base.{sets-same, by-base}
+use Rattle.book_laws.proofs.Live.{add-one-base}
 use Rattle.book_laws.proofs.Grows.{Grown, add-reads}
 
 -- ---- the faults of a new record
@@ -123,7 +130,7 @@ module _ (room : List ℕ) (bs : Bytes room) (station : ℕ) (name : List ℕ) (
       go : (t : Bool) → eqb (b .header .format) 1 ≡ t → fault (cond t floor 0) ≡ f → Added room len station name (Fault f) room
       go true d h =
           let o : OneBook (formats 1) (take len room) b n = one-book (formats 1) (take len room) (bytes-take len room bs) b n (there .reads) in
-          refused f z true (lt-ltb (length room) (len + length w) k) (ap (λ x. fault (floorOf 0 (x .records))) (one-base room len b n o d) ∙ h)
+          refused f z true (lt-ltb (length room) (len + length w) k) (ap (λ x. fault (floorOf 0 (x .records))) (add-one-base room len b n o d) ∙ h)
       go false d h = refused f z true (lt-ltb (length room) (len + length w) k) (any-floor station name f h z (floorOf 0 (baseOf true room len b .records)))
 
   gone : (r : Ended) (room′ : List ℕ) → Appended room end station name r room′ → GoneOn room end station name r room′
@@ -226,15 +233,15 @@ on-from room bs station name len b n e e′ room′ x =
       is = λ i. record { header = y .header i; len = e′ .len; floor = (y .floor ∙ sym f) i };
     }
 
-pub goes-on : (room : List ℕ) → Bytes room → (station : ℕ) (name : List ℕ) (e : End) (b : Book) → GoodEnd room e b → (e′ : End) (room′ : List ℕ) → Appended room e station name (ended.At e′) room′
+pub append-goes-on : (room : List ℕ) → Bytes room → (station : ℕ) (name : List ℕ) (e : End) (b : Book) → GoodEnd room e b → (e′ : End) (room′ : List ℕ) → Appended room e station name (ended.At e′) room′
     → GoodEnd room′ e′ (longer b station name)
-goes-on room bs station name e b x e′ room′ y =
+append-goes-on room bs station name e b x e′ room′ y =
     on-from room bs station name (e .len) b (x .n) (x .reads) e′ room′ (subst (λ (k : End). Appended room k station name (ended.At e′) room′) (x .is) y)
 
 -- ---- what `read` tells of the bytes in front of a room is the end of a good book
-pub read-end : (room : List ℕ) (len : ℕ) → len ≤ length room → (h : Header) (first : ℕ) (m : Measure) → wholeBy (readBook (take len room)) ≡ whole.Book h first m
+pub book-end : (room : List ℕ) (len : ℕ) → len ≤ length room → (h : Header) (first : ℕ) (m : Measure) → wholeBy (readBook (take len room)) ≡ whole.Book h first m
     → (b : Book) × GoodEnd room (record { header = h; len = len; floor = m .floor }) b
-read-end room len k h first m p =
+book-end room len k h first m p =
     let x = whole-told (formats 1) (take len room) h first m p in (
       x .b,
       record {

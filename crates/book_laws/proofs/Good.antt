@@ -4,23 +4,26 @@ use mathlib.Core.Path.{_≡_, refl}
 use mathlib.Core.Bool.{Bool, true, false, cond}
 use mathlib.Core.List.{List, [], _∷_}
 use native.Mathlib.Omega.{arith}
-use borrow.Author.Tests.{le-ltb, ltb-false, leb-true, eqb-true, eqb-false}
+use borrow.Author.Tests.{le-ltb, ltb-false, leb-true, eqb-true}
 use lib.Dec.{ltb, leb, eqb}
 use lib.ListN.{length}
 use Rattle.number.specs.Septets.{Bytes}
-use Rattle.encoder.specs.Numbers.{wordLimit}
-use Rattle.encoder.specs.Trim.{firstHigh}
+use Rattle.terms.specs.Limits.{wordLimit}
+use Rattle.prepare.specs.Trim.{firstHigh}
 use Rattle.fields.specs.Got.{good}
 use Rattle.fields.specs.Field.{faultIn}
 use Rattle.fields.proofs.Field.{none-in}
-use Rattle.fields.proofs.All as all
-use Rattle.encoder.specs.Editions.{lastEdition}
-use Rattle.book.specs.declared.Header.{Header}
-use Rattle.book.specs.Book.{Record, Entry, Book, written, known, lastFormat, formats, kinds, rising, nameLength, nameByte, above, readBook}
-use Rattle.book.proofs.Book.{FineHeader, FineRecord, FineKind, unspelt, spelt, FineEntries, reads-back, OneBook, one-book}
-use Rattle.book.proofs.Told.{known-good}
-use Rattle.book.proofs.Entries.{kind-good}
+use Rattle.terms.specs.Editions.{lastEdition, lastFormat}
+use Rattle.header.specs.declared.Header.{Header}
+use Rattle.entry.specs.Entry.{Record, Entry, rising, nameLength, nameByte, above}
+use Rattle.book.specs.Book.{Book, written, readBook}
+use Rattle.header.specs.Head.{known, formats}
+use Rattle.header.proofs.Head.{FineHeader, known-good}
+use Rattle.entry.proofs.Entry.{FineRecord, FineKind, unspelt, spelt, kind-low, kind-one}
+use Rattle.book.proofs.Book.{FineEntries, reads-back, OneBook, one-book}
+use Rattle.entry.proofs.Kind.{kind-good}
 use Rattle.book_laws.specs.Good.{GoodHeader, GoodRecord, GoodRecords, none, more}
+use Rattle.fields.proofs.All as all
 
 -- ---- a name without a high byte shows no fault
 pub clean : (w : List ℕ) → length w ≤ firstHigh w → faultIn nameByte w ≡ 0
@@ -75,13 +78,6 @@ is-known least most v e = go (leb least v) refl (leb v most) refl e
     go true d false f e = absurd (omega arith)
     go true d true f e = (leb-true least v d, leb-true v most f)
 
-pub is-kind : (v : ℕ) → kinds v ≡ 0 → v ≤ 1
-is-kind v e = go (leb v 1) refl e
-  where
-    go : (q : Bool) → leb v 1 ≡ q → _≡_ {A = ℕ} (cond q 0 7) 0 → v ≤ 1
-    go false f e = absurd (omega arith)
-    go true f e = leb-true v 1 f
-
 pub not-below : (floor v : ℕ) → rising floor v ≡ 0 → floor ≤ v
 not-below floor v e = go (ltb v floor) refl e
   where
@@ -122,22 +118,14 @@ record-good floor r x = record {
   alternate = x .behind .behind .behind .long .small;
 }
 
-pub kind-low : (format k : ℕ) → FineKind format k → k ≤ 1
-kind-low format k (unspelt e f) = omega (arith, f)
-kind-low format k (spelt e x) = is-kind k (x .judged)
-
-pub kind-one : (format k : ℕ) → format ≡ 1 → FineKind format k → k ≡ 1
-kind-one format k z (unspelt e f) = f
-kind-one format k z (spelt e x) = absurd (eqb-false format 1 e z)
-
 records-good : (format floor : ℕ) (es : List Entry) → FineEntries format floor es → GoodRecords format floor es
 records-good format floor [] all.none = none
 records-good format floor (e ∷ es) (all.more x xs) =
     more (record { kind = kind-low format (e .kind) (x .front); one = λ z. kind-one format (e .kind) z (x .front); body = record-good floor (e .body) (x .behind) }) (records-good format (above e) es xs)
 
 -- ---- reading a written book gives its header and records back
-pub round-trip : (h : Header) (es : List Entry) → GoodHeader h → GoodRecords (h .format) 0 es → readBook (written h es) ≡ good (record { header = h; records = es }) (length (written h es))
-round-trip h es x xs = reads-back (formats 1) h es (header-fine h x) (records-fine (h .format) 0 es xs)
+pub book-round-trip : (h : Header) (es : List Entry) → GoodHeader h → GoodRecords (h .format) 0 es → readBook (written h es) ≡ good (record { header = h; records = es }) (length (written h es))
+book-round-trip h es x xs = reads-back (formats 1) h es (header-fine h x) (records-fine (h .format) 0 es xs)
 
 -- ---- bytes that read as a book are the writing of what they read as, and that is good
 pub record Reads (l : List ℕ) (b : Book) : Type 0 where
@@ -145,7 +133,7 @@ pub record Reads (l : List ℕ) (b : Book) : Type 0 where
   pub header : GoodHeader (b .header)
   pub records : GoodRecords (b .header .format) 0 (b .records)
 
-pub only-book : (l : List ℕ) → Bytes l → (b : Book) (n : ℕ) → readBook l ≡ good b n → Reads l b
-only-book l bs b n e =
+pub book-only : (l : List ℕ) → Bytes l → (b : Book) (n : ℕ) → readBook l ≡ good b n → Reads l b
+book-only l bs b n e =
     let o : OneBook (formats 1) l b n = one-book (formats 1) l bs b n e in
     record { bytes = o .bytes; header = header-good (b .header) (o .header); records = records-good (b .header .format) 0 (b .records) (o .records) }

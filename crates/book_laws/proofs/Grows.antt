@@ -1,5 +1,5 @@
 -- What the writer makes reads back: an accepted start leaves the book of no records, an accepted addition the book of the records that stay
--- and the new one. Assumes nothing.
+-- and the new one.
 use Prim.Native.Nat.{ℕ, _+_, _^_, _≤_}
 use mathlib.Core.Path.{_≡_, refl, sym, ap, _∙_}
 use mathlib.Core.Bool.{Bool, true, false, cond}
@@ -10,24 +10,31 @@ use lib.Dec.{ltb, eqb}
 use lib.ListN.{length, take, drop, length-append}
 use lib.Seq.{sets, sets-eq, take-at}
 use Rattle.number.specs.Septets.{Bytes}
-use Rattle.encoder.specs.declared.Choice.the-variants.{Primary, Alternate}
-use Rattle.encoder.specs.Numbers.{wordLimit}
-use Rattle.encoder.specs.Editions.{editionOf}
+use Rattle.chosen.specs.declared.Choice.the-variants.{Primary, Alternate}
+use Rattle.terms.specs.Limits.{wordLimit}
+use Rattle.editions.specs.Editions.{editionOf}
 use Rattle.fields.specs.Got.{Got, good, bad, writeAll}
 use Rattle.fields.proofs.Field.{none-in}
 use Rattle.fields.proofs.All as all
-use Rattle.book.specs.declared.Header.{Header}
-use Rattle.book.specs.Book.{Entry, Book, headerBytes, entryBytes, written, formats, above, readBook, floorOf}
-use Rattle.book.proofs.Book.{FineHeader, FineRecord, FineKind, unspelt, spelt, FineEntry, FineEntries, reads-back, OneBook, one-book}
-use Rattle.writer.specs.declared.Made.{Made}
-use Rattle.writer.specs.declared.Made.the-variants.{Length}
-use Rattle.writer.specs.Made.{limitOf, cutFault, left, Placed, newHeader, codeUnder, keyed, keyedEntry, newBytes, newFault}
-use Rattle.writer.specs.Ended.{readIn}
-use Rattle.writer.proofs.Placed.{Laid, was-laid, Sound, sound}
-use Rattle.writer.proofs.Named.{code-fits}
-use Rattle.writer.proofs.Ends.{Lies, lies}
+use Rattle.header.specs.declared.Header.{Header}
+use Rattle.entry.specs.Entry.{Entry, entryBytes, above}
+use Rattle.book.specs.Book.{Book, written, readBook, floorOf}
+use Rattle.header.specs.Head.{headerBytes, formats, limitOf}
+use Rattle.header.proofs.Head.{FineHeader}
+use Rattle.entry.proofs.Entry.{FineRecord, FineKind, unspelt, spelt, FineEntry}
+use Rattle.book.proofs.Book.{FineEntries, reads-back, OneBook, one-book}
+use Rattle.putting.specs.declared.Made.{Made}
+use Rattle.putting.specs.declared.Made.the-variants.{Length}
+use Rattle.starting.specs.New.{cutFault, newHeader}
+use Rattle.putting.specs.Laid.{left, Placed}
+use Rattle.keying.specs.Keyed.{codeUnder, keyed, keyedEntry, newBytes, newFault}
+use Rattle.book.specs.Room.{readIn}
+use Rattle.keying.proofs.Keyed.{Laid, was-laid, Sound, sound}
+use Rattle.keying.proofs.Named.{code-fits}
+use Rattle.book.proofs.Room.{Lies, lies}
 use Rattle.fields.proofs.Law.{bytes-take}
-use Rattle.changing.specs.Adding.{Base, baseOf, addBase, addPlaced, addLeft, addAnswer, addLeaves, Added}
+use Rattle.placing.specs.Base.{Base, baseOf, addBase, addPlaced, addLeft, addAnswer, addLeaves}
+use Rattle.adding.specs.Adding.{Added}
 use Rattle.book_laws.proofs.Good.{clean}
 use Rattle.book_laws.proofs.Live.{live-fines}
 

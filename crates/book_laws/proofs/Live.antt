@@ -1,4 +1,4 @@
--- The live records of a book that reads: closing up leaves the book of them, and a format 1 book as it is. Assumes nothing.
+-- The live records of a book that reads: closing up leaves the book of them, and a format 1 book as it is.
 use Prim.Native.Nat.{ℕ, _≤_}
 use mathlib.Core.Path.{_≡_, refl, sym, ap, _∙_}
 use mathlib.Core.Bool.{Bool, true, false, cond}
@@ -10,10 +10,13 @@ use lib.ListN.{length, take}
 use Rattle.number.specs.Septets.{Bytes}
 use Rattle.fields.specs.Got.{good}
 use Rattle.fields.proofs.All as all
-use Rattle.book.specs.Book.{Entry, Book, written, formats, above, readBookBy, isLive, live}
-use Rattle.book.proofs.Book.{FineEntry, FineEntries, reads-back, OneBook, one-book}
-use Rattle.changing.specs.Adding.{baseOf}
-use Rattle.book_laws.proofs.Good.{not-below, kind-one}
+use Rattle.entry.specs.Entry.{Entry, above, isLive}
+use Rattle.book.specs.Book.{Book, written, readBookBy, live}
+use Rattle.header.specs.Head.{formats}
+use Rattle.entry.proofs.Entry.{FineEntry, kind-one}
+use Rattle.book.proofs.Book.{FineEntries, reads-back, OneBook, one-book}
+use Rattle.placing.specs.Base.{baseOf}
+use Rattle.book_laws.proofs.Good.{not-below}
 
 -- ---- THE LIVE ONES, written again, read as the live ones
 lower : (format floor least : ℕ) (e : Entry) → least ≤ floor → FineEntry format floor e → FineEntry format least e
@@ -47,8 +50,8 @@ all-live format floor one (e ∷ es) (all.more x xs) =
     c ∙ ap (λ (l : List Entry). e ∷ l) (all-live format (above e) one es xs)
 
 -- ---- FORMAT 1 is added to as before: closing up would leave it as it is, so that both bases are one
-pub one-base : (room : List ℕ) (len : ℕ) (b : Book) (n : ℕ) → OneBook (formats 1) (take len room) b n → eqb (b .header .format) 1 ≡ true → baseOf true room len b ≡ baseOf false room len b
-one-base room len b n o one =
+pub add-one-base : (room : List ℕ) (len : ℕ) (b : Book) (n : ℕ) → OneBook (formats 1) (take len room) b n → eqb (b .header .format) 1 ≡ true → baseOf true room len b ≡ baseOf false room len b
+add-one-base room len b n o one =
     let e : live (b .records) ≡ b .records = all-live (b .header .format) 0 one (b .records) (o .records) in
     let f : written (b .header) (live (b .records)) ≡ take len room = ap (written (b .header)) e ∙ sym (o .bytes) in
     λ i. record { front = f i; records = e i }

@@ -2,7 +2,7 @@
 use Prim.Native.Nat.{ℕ}
 use mathlib.Core.Bool.{Bool, false, _||_}
 use mathlib.Core.List.{List, [], _∷_}
-use Rattle.book.specs.Book.{Entry}
+use Rattle.entry.specs.Entry.{Entry}
 use Rattle.closing.specs.Closing.{meant}
 
 abbrev pub hasLive : ℕ → List Entry → Bool

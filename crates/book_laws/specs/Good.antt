@@ -3,11 +3,11 @@ use Prim.Native.Nat.{ℕ, _^_, _≤_, _<_}
 use mathlib.Core.Path.{_≡_}
 use mathlib.Core.List.{List, [], _∷_}
 use lib.ListN.{length}
-use Rattle.encoder.specs.Numbers.{wordLimit}
-use Rattle.encoder.specs.Trim.{firstHigh}
-use Rattle.encoder.specs.Editions.{lastEdition}
-use Rattle.book.specs.declared.Header.{Header}
-use Rattle.book.specs.Book.{Record, Entry, lastFormat, above}
+use Rattle.terms.specs.Limits.{wordLimit}
+use Rattle.prepare.specs.Trim.{firstHigh}
+use Rattle.terms.specs.Editions.{lastEdition, lastFormat}
+use Rattle.header.specs.declared.Header.{Header}
+use Rattle.entry.specs.Entry.{Record, Entry, above}
 
 pub record GoodHeader (h : Header) : Type 0 where
   pub format : (1 ≤ h .format) × (h .format ≤ lastFormat)

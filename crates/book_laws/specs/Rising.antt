@@ -2,7 +2,7 @@
 use Prim.Native.Nat.{ℕ, _<_}
 use mathlib.Core.List.{List, [], _∷_}
 use lib.ListN.{length, getD}
-use Rattle.book.specs.Book.{Entry}
+use Rattle.entry.specs.Entry.{Entry}
 
 -- of live and closed records
 abbrev pub stations : List Entry → List ℕ

@@ -1,4 +1,4 @@
--- The walk to the record that a close is about. Assumes nothing.
+-- The walk to the record that a close is about.
 use Prim.Native.Nat.{ℕ, _+_, _≤_, _<_}
 use mathlib.Core.Path.{_≡_, sym, ap, _∙_}
 use mathlib.Core.Bool.{Bool, true, false, cond, _&&_}
@@ -8,16 +8,19 @@ use borrow.Author.Tests.{ne-eqb}
 use lib.Dec.{eqb}
 use lib.ListN.{length, drop, length-drop}
 use lib.Seq.{drop-drop}
-use Rattle.fields.specs.declared.Span.{Span}
+use Rattle.slices.specs.declared.Span.{Span}
 use Rattle.fields.specs.Got.{Got, good}
-use Rattle.book.specs.declared.Cursor.{Cursor}
-use Rattle.book.specs.declared.Step.the-variants as step
-use Rattle.book.specs.Book.{Entry, entryBytes, readEntry, above, readEntries}
-use Rattle.book.specs.Told.{stepAt}
-use Rattle.book.proofs.Book.{entry-law, some-entry}
-use Rattle.book.proofs.Entries.{step-told, step-fault, Behind, behind, first-good, none-behind}
+use Rattle.header.specs.declared.Cursor.{Cursor}
+use Rattle.entry.specs.declared.Step.the-variants as step
+use Rattle.entry.specs.Entry.{Entry, entryBytes, readEntry, above}
+use Rattle.book.specs.Book.{readEntries}
+use Rattle.entry.specs.Told.{stepAt}
+use Rattle.entry.proofs.Entry.{entry-law, some-entry}
+use Rattle.entry.proofs.Kind.{step-told, step-fault}
+use Rattle.book.proofs.Entries.{Behind, behind, first-good, none-behind}
 use Rattle.closing.specs.declared.Place.the-variants as place
-use Rattle.closing.specs.Closing.{meant, placeOf, AllGood, placeTold, soughtBy, Sought}
+use Rattle.closing.specs.Closing.{meant, placeOf, placeTold, soughtBy, Sought}
+use Rattle.book.specs.Told.{AllGood}
 
 -- ---- the record that is meant
 pub not-live : (kind : ℕ) (b : Bool) → (kind ≡ 1 → ⊥) → false ≡ (eqb kind 1 && b)

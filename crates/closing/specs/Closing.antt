@@ -5,8 +5,11 @@ use mathlib.Core.Bool.{Bool, cond, _&&_}
 use mathlib.Core.List.{List, [], _∷_}
 use lib.Dec.{eqb}
 use lib.ListN.{length, drop}
+use Rattle.terms.specs.Refusals.{noLive}
 use Rattle.fields.specs.Got.{Got, good, bad}
-use Rattle.book.specs.Book.{Entry, Book, headerBytes, entryBytes, readEntries, isLive}
+use Rattle.entry.specs.Entry.{Entry, entryBytes, isLive}
+use Rattle.book.specs.Book.{Book, readEntries}
+use Rattle.header.specs.Head.{headerBytes}
 use Rattle.closing.specs.declared.Place.{Place}
 use Rattle.closing.specs.declared.Place.the-variants as place
 
@@ -22,18 +25,12 @@ closedIn station (e ∷ es) = cond (meant station e) (closed e ∷ es) (e ∷ cl
 
 -- where its kind stands, from the place where the records begin; 11 for none
 abbrev pub placeOf : ℕ → ℕ → ℕ → List Entry → Got ℕ
-placeOf format station at [] = bad 11
+placeOf format station at [] = bad noLive
 placeOf format station at (e ∷ es) = cond (meant station e) (good at 1) (placeOf format station (at + length (entryBytes format e)) es)
 
 abbrev pub kindPlace : ℕ → Got Book → Got ℕ
 kindPlace station (good b n) = placeOf (b .header .format) station (length (headerBytes (b .header))) (b .records)
 kindPlace station (bad f) = bad f
-
--- ---- records that read
-pub record AllGood (x : Got (List Entry)) : Type 0 where
-  pub es : List Entry
-  pub n : ℕ
-  pub is : x ≡ good es n
 
 -- ---- the place that is found
 abbrev pub placeTold : Got ℕ → Place

@@ -1,5 +1,5 @@
--- Closed records.
+-- A station closed.
 --     Closing   the live record of a station, and where its kind stands
---     Up        what closing up makes of a part of a room
+--     Closed    what a close answers and leaves
 pub mod Closing
-pub mod Up
+pub mod Closed

@@ -1,75 +1,47 @@
-// Closed records give their room back: the live record of a station is found, and a book is closed up in the lent room itself.
+// A station closed: its live record is found, and the record's kind becomes 0. A fault is document 02's number: the reader's, and 11 where the
+// station has no live record. A refusal changes nothing.
+use book::Reading;
+use entry::Step;
+use putting::Made;
+use terms::BOOK_ENDS;
+use terms::NO_LIVE;
 ghost use mathlib.Core.Path.{_≡_};
 ghost use mathlib.Core.Bool.{_&&_};
-ghost use Prim.Native.Nat.{_+_, _≤_};
 ghost use lib.Dec.{eqb};
-ghost use lib.ListN.{length, take, drop};
-ghost use lib.Seq.{sets};
-ghost use Rattle.fields.specs.Put.{Put};
+ghost use lib.ListN.{drop};
 ghost use Rattle.book.specs.Book.{readEntries};
-ghost use Rattle.closing.specs.Closing.{AllGood, Sought};
-ghost use Rattle.closing.specs.Up.{entriesIn, liveOf};
-use book::Step;
+ghost use Rattle.book.specs.Told.{AllGood};
+ghost use Rattle.closing.specs.Closed.{Closed};
+ghost use Rattle.closing.specs.Closing.{Sought};
+
+// Closes a station of the book in the first `len` bytes of the room, which are read first: the kind of its live record becomes 0.
+pub fn close(room: &mut [u8], len: usize, station: u64) -> Made
+    ensures { λ r. ⌜ Closed (now (room .entry)) len station r (now (room .exit)) ⌝ }
+{
+    let whole = book::read_in(room, len, 2);
+    match whole {
+        Reading::Book {
+            header,
+            first,
+            measure: _,
+        } => {
+            let found = find_live(&room[..len], first, header.format, station);
+            match found {
+                Place::At(place) => {
+                    room[place] = 0;
+                    Made::Length(len)
+                }
+                Place::Fault(f) => Made::Fault(f),
+            }
+        }
+        Reading::Fault(f) => Made::Fault(f),
+    }
+}
 
 // Where the kind of a record stands.
 pub enum Place {
     At(usize),
     Fault(u8),
-}
-
-// Copies `n` bytes from `at` down to `to`; the two may overlap.
-fn copy_down(out: &mut [u8], to: usize, at: usize, n: usize)
-    requires { ⌜ (to ≤ at) × (at + n ≤ length (now out)) ⌝ }
-    ensures { λ _. ⌜ now (out .exit) ≡ sets (now (out .entry)) to (take n (drop at (now (out .entry)))) ⌝ }
-{
-    if to == at {
-        return;
-    }
-    let mut i = 0;
-    while i < n {
-        out[to + i] = out[at + i];
-        i += 1;
-    }
-}
-
-// Closes up the records from `from` to `len`: the live ones, in order and byte for byte, from `from` on. Gives the place behind them. What
-// stands behind that place is not touched.
-pub fn close_up(room: &mut [u8], len: usize, format: u32, from: usize) -> usize
-    requires { ⌜ (from ≤ len) × (len ≤ length (now room)) × AllGood (entriesIn format (now room) len from) ⌝ }
-    ensures { λ r. ⌜ Put (now (room .entry)) from (liveOf format (entriesIn format (now (room .entry)) len from)) r (now (room .exit)) ⌝ }
-{
-    let mut at = from;
-    let mut to = from;
-    let mut floor: u32 = 0;
-    while at < len {
-        let one = book::record_at(&room[..len], at, format, floor);
-        match one {
-            Step::Record {
-                station: _,
-                name: _,
-                primary: _,
-                alternate: _,
-                next,
-                kind,
-            } => {
-                let end = next.at;
-                if kind == 1 {
-                    let n = end - at;
-                    copy_down(room, to, at, n);
-                    to += n;
-                }
-                at = end;
-                floor = next.floor;
-            }
-            Step::End => {
-                return to;
-            }
-            Step::Fault(_) => {
-                return to;
-            }
-        }
-    }
-    to
 }
 
 // Whether a record is the live one of a station.
@@ -90,7 +62,7 @@ pub fn find_live(s: &[u8], from: usize, format: u32, station: u64) -> Place
     let mut at = from;
     let mut floor: u32 = 0;
     while at < s.len() {
-        let one = book::record_at(s, at, format, floor);
+        let one = entry::record_at(s, at, format, floor);
         match one {
             Step::Record {
                 station: here,
@@ -107,12 +79,12 @@ pub fn find_live(s: &[u8], from: usize, format: u32, station: u64) -> Place
                 floor = next.floor;
             }
             Step::End => {
-                return Place::Fault(6);
+                return Place::Fault(BOOK_ENDS);
             }
             Step::Fault(f) => {
                 return Place::Fault(f);
             }
         }
     }
-    Place::Fault(11)
+    Place::Fault(NO_LIVE)
 }

@@ -9,17 +9,15 @@ use lib.Dec.{ltb}
 use lib.ListN.{length, take, length-take}
 use lib.Seq.{take-all}
 use Rattle.walk.specs.Walk.{toPrimary, toAlternate}
-use Rattle.walk.specs.Word.{ruleOf, startOf, visitsOf, wholeOf, limitedOf}
-use Rattle.walk.proofs.Limit.{Cut, cut, no-limit}
-use Rattle.walk.proofs.Bound.{primary-bound, alternate-bound}
+use Rattle.walk.specs.Word.{ruleOf, visitsOf, wholeOf, limitedOf}
+use Rattle.word.specs.Start.{startOf}
+use Rattle.walk_laws.proofs.Limit.{Cut, cut, no-limit}
+use Rattle.walk_laws.proofs.Bound.{primary-bound, alternate-bound}
 use Rattle.rules.specs.declared.Edition.{Edition}
-use Rattle.encoder.specs.declared.Limit.{Limit}
-use Rattle.encoder.specs.declared.Limit.the-variants.{Whole, At}
-use Rattle.encoder.specs.Encode.{needOf, capOf, primaryOf, alternateOf, visitsUnder}
-
-pub need-none : (l : Limit) (t : ℕ) → t ≡ 0 → 0 ≡ needOf l t
-need-none Whole t e = omega arith
-need-none (At n) t e = omega arith
+use Rattle.terms.specs.declared.Limit.{Limit}
+use Rattle.terms.specs.declared.Limit.the-variants.{Whole, At}
+use Rattle.needs.specs.Needs.{needOf, capOf}
+use Rattle.encoder.specs.Encode.{primaryOf, alternateOf, visitsUnder}
 
 -- what is cut from a code of at most 2t - 1 bytes: under 2t all of it, and under any limit no more than is needed
 uncut : (t : ℕ) (code whole : List ℕ) → code ≡ take (2 * t) whole → length whole ≤ 2 * t - 1 → code ≡ whole

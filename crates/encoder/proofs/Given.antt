@@ -1,4 +1,4 @@
--- Document 01's table holds of the definition's answer, by its four tests. Assumes nothing.
+-- Document 01's table holds of the definition's answer, by its four tests.
 use Prim.Native.Nat.{ℕ, _≤_, _<_}
 use mathlib.Core.Path.{_≡_, refl}
 use mathlib.Core.List.{List}
@@ -8,10 +8,12 @@ use borrow.Author.Tests.{ltb-true, ltb-false}
 use lib.Dec.{ltb}
 use lib.ListN.{length}
 use Rattle.rules.specs.declared.Edition.{Edition}
-use Rattle.encoder.specs.declared.Limit.{Limit}
+use Rattle.terms.specs.declared.Limit.{Limit}
 use Rattle.encoder.specs.declared.Answer.the-variants.{Coded, TooLong, NotAscii, PrimaryShort, AlternateShort}
-use Rattle.encoder.specs.Trim.{trimmed, firstHigh}
-use Rattle.encoder.specs.Encode.{wordLimit, needOf, answerOf}
+use Rattle.prepare.specs.Trim.{trimmed, firstHigh}
+use Rattle.terms.specs.Limits.{wordLimit}
+use Rattle.needs.specs.Needs.{needOf}
+use Rattle.encoder.specs.Encode.{answerOf}
 use Rattle.encoder.specs.Table.{Given}
 
 -- by its four tests

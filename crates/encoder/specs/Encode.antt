@@ -1,24 +1,26 @@
 -- What `encode` promises: its answer for every word, limit and room, and what it leaves in both buffers, after document
--- 01's "What the caller gets". proofs/NoChoice.antt shows that nothing is left open, and proofs/Demand2.antt what an accepted word
+-- 01's "What the caller gets". proofs/NoChoice.antt shows that nothing is left open, and crates/demands/proofs/Demand2.antt what an accepted word
 -- gets.
-use Prim.Native.Nat.{ℕ, zero, suc, _-_, _*_, min}
+use Prim.Native.Nat.{ℕ, zero, suc}
 use mathlib.Core.Path.{_≡_}
 use mathlib.Core.List.{List}
 use mathlib.Core.Bool.{cond}
 use lib.Dec.{ltb}
-use lib.ListN.{length, take}
+use lib.ListN.{length}
 pub use Rattle.walk.specs.Walk.{filled}
-pub use Rattle.encoder.specs.Numbers.{wordLimit, numberOf, placeOf, primaryLength, alternateLength, visitCount}
-use Rattle.walk.specs.Walk as walk
+pub use Rattle.terms.specs.Limits.{wordLimit}
+pub use Rattle.encoder.specs.Numbers.{numberOf, placeOf, primaryLength, alternateLength, visitCount}
 use Rattle.walk.specs.Word.{wholeOf, limitedOf}
 use Rattle.rules.specs.declared.Edition.{Edition}
-use Rattle.encoder.specs.declared.Limit.{Limit}
-use Rattle.encoder.specs.declared.Limit.the-variants.{Whole, At}
+use Rattle.terms.specs.declared.Limit.{Limit}
+use Rattle.terms.specs.declared.Limit.the-variants.{Whole, At}
 use Rattle.encoder.specs.declared.Encoder.{Encoder}
 use Rattle.encoder.specs.declared.Answer.{Answer}
 use Rattle.encoder.specs.declared.Answer.the-variants.{Coded, TooLong, NotAscii, PrimaryShort, AlternateShort}
-use Rattle.encoder.specs.Trim.{trimmed, firstHigh}
+use Rattle.prepare.specs.Trim.{trimmed, firstHigh}
 use Rattle.encoder.specs.Table.{Given}
+use Rattle.needs.specs.Needs.{needOf}
+use Rattle.walk.specs.Walk as walk
 
 -- "the default limit, 4, belongs to the encoder"
 abbrev pub defaultLimit : ℕ
@@ -27,25 +29,10 @@ defaultLimit = 4
 abbrev pub encoderOf : Edition → Limit → Encoder
 encoderOf ed l = record { limit = l; edition = ed }
 
--- 2t - 1 for a trimmed word of t bytes (0 for none), or the limit if that is smaller
-abbrev pub needOf : Limit → ℕ → ℕ
-needOf Whole t = 2 * t - 1
-needOf (At n) t = min n (2 * t - 1)
-
--- the limit that the walk is given: with none, more bytes than a code has
-abbrev pub capOf : Limit → ℕ → ℕ
-capOf Whole t = 2 * t
-capOf (At n) t = n
-
 -- the walk of a trimmed word under an edition, with no limit or under one
 abbrev pub walkOf : Edition → Limit → List ℕ → walk.Coded
 walkOf ed Whole t = wholeOf ed t
 walkOf ed (At n) t = limitedOf ed n t
-
--- a code's first bytes; a shorter code counts whole, and no limit puts no bound
-abbrev pub clip : Limit → List ℕ → List ℕ
-clip Whole c = c
-clip (At n) c = take n c
 
 -- its codes and its visits
 unfoldable pub primaryOf : Edition → Limit → List ℕ → List ℕ

@@ -4,10 +4,6 @@ use Prim.Native.Nat.{ℕ}
 use Rattle.encoder.specs.declared.Answer.{Answer}
 use Rattle.encoder.specs.declared.Answer.the-variants.{Coded, TooLong, NotAscii, PrimaryShort, AlternateShort}
 
--- the bytes that a word may have, before trimming
-abbrev pub wordLimit : ℕ
-wordLimit = 1024
-
 -- document 01's number of an answer, the place, both lengths and the visits
 abbrev pub numberOf : Answer → ℕ
 numberOf (Coded p a v) = 0

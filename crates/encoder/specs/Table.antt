@@ -1,11 +1,12 @@
 -- Document 01's table under "What the caller gets": "Given exactly when" and "Returns" of each number, for a word of n bytes whose
 -- first high byte is at `high` (n where it has none), buffers of p and a bytes, and what is needed. It is part of
--- what `encode` promises (Encode.antt); theorem `unchanged` of proofs/Table.antt: a refusal leaves the buffers untouched.
+-- what `encode` promises (Encode.antt); theorem `unchanged` of crates/demands/proofs/Table.antt: a refusal leaves the buffers untouched.
 use Prim.Native.Nat.{ℕ, _≤_, _<_}
 use mathlib.Core.Path.{_≡_}
 use mathlib.Core.Logic.{_↔_}
 use Rattle.encoder.specs.declared.Answer.{Answer}
-use Rattle.encoder.specs.Numbers.{wordLimit, numberOf, placeOf, primaryLength, alternateLength, visitCount}
+use Rattle.terms.specs.Limits.{wordLimit}
+use Rattle.encoder.specs.Numbers.{numberOf, placeOf, primaryLength, alternateLength, visitCount}
 
 pub record Given (n high p a need : ℕ) (r : Answer) : Type 0 where
   pub one : (numberOf r ≡ 1) ↔ (wordLimit < n)

@@ -6,14 +6,16 @@ use mathlib.Core.Bool.{Bool, true, false, cond}
 use lib.Dec.{ltb}
 use lib.ListN.{length}
 use Rattle.rules.specs.declared.Edition.{Edition}
-use Rattle.encoder.specs.declared.Limit.{Limit}
+use Rattle.terms.specs.declared.Limit.{Limit}
 use Rattle.encoder.specs.declared.Answer.{Answer}
 use Rattle.encoder.specs.declared.Answer.the-variants as said
-use Rattle.encoder.specs.Trim.{trimmed, firstHigh}
-use Rattle.encoder.specs.Encode.{wordLimit, needOf, Encoded}
+use Rattle.prepare.specs.Trim.{trimmed, firstHigh}
+use Rattle.terms.specs.Limits.{wordLimit}
+use Rattle.needs.specs.Needs.{needOf}
+use Rattle.encoder.specs.Encode.{Encoded}
 use Rattle.equality.specs.declared.Verdict.{Verdict}
 use Rattle.equality.specs.declared.Verdict.the-variants.{Equal, Different, TooLong, NotAscii}
-use Rattle.windows.specs.Text.{same}
+use Rattle.basics.specs.Same.{same}
 use Rattle.equality.specs.Equality.{unlessRefused, compared}
 
 -- the verdict at an answer, where v is what an accepted word gives

@@ -8,21 +8,21 @@ use native.Mathlib.Omega.{arith}
 use borrow.Author.Tests.{ltb-true, ltb-false, le-ltb}
 use lib.Dec.{ltb}
 use lib.ListN.{length}
-use Rattle.encoder.specs.declared.Limit.{Limit}
-use Rattle.encoder.specs.declared.Choice.{Choice}
-use Rattle.encoder.specs.Trim.{firstHigh}
-use Rattle.encoder.specs.Encode.{wordLimit}
-use Rattle.encoder.specs.Demand2.{Taken}
-use Rattle.encoder.proofs.High.{no-high}
-use Rattle.encoder.proofs.Demand2.{taken-by}
+use Rattle.terms.specs.declared.Limit.{Limit}
+use Rattle.chosen.specs.declared.Choice.{Choice}
+use Rattle.prepare.specs.Trim.{firstHigh}
+use Rattle.terms.specs.Limits.{wordLimit}
+use Rattle.demands.specs.Demand2.{Taken}
+use Rattle.prepare.proofs.High.{no-high}
+use Rattle.demands.proofs.Demand2.{taken-by}
 use Rattle.equality.specs.declared.Verdict.{Verdict}
 use Rattle.equality.specs.declared.Verdict.the-variants.{Equal, Different, TooLong, NotAscii}
 use Rattle.rules.specs.declared.Edition.the-variants.{E1}
-use Rattle.encoder.specs.Chosen.{codeOf}
+use Rattle.demands.specs.Code.{codeOf}
 use Rattle.equality.specs.Equality.{wordOf, equalOf, unlessRefused, compared, verdictOf, Answered}
 use Rattle.equality.specs.Table.{Told}
-use Rattle.windows.specs.Text.{same}
-use Rattle.windows.proofs.Facts.{same-true, same-refl}
+use Rattle.basics.specs.Same.{same}
+use Rattle.basics.proofs.Same.{same-true, same-refl}
 
 -- by its five tests
 module _ (n high n′ high′ : ℕ) where

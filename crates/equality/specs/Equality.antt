@@ -7,13 +7,13 @@ use mathlib.Core.List.{List}
 use mathlib.Core.Bool.{cond}
 use lib.Dec.{ltb}
 use lib.ListN.{length}
-use Rattle.windows.specs.Text.{same}
+use Rattle.basics.specs.Same.{same}
 use Rattle.rules.specs.declared.Edition.the-variants.{E1}
-use Rattle.encoder.specs.declared.Limit.{Limit}
-use Rattle.encoder.specs.Trim.{firstHigh}
-use Rattle.encoder.specs.Encode.{wordLimit}
-use Rattle.encoder.specs.Chosen.{codeOf}
-use Rattle.encoder.specs.declared.Choice.{Choice}
+use Rattle.terms.specs.declared.Limit.{Limit}
+use Rattle.prepare.specs.Trim.{firstHigh}
+use Rattle.terms.specs.Limits.{wordLimit}
+use Rattle.demands.specs.Code.{codeOf}
+use Rattle.chosen.specs.declared.Choice.{Choice}
 pub use Rattle.equality.specs.Numbers.{numberOf, wordOf, placeOf, equalOf}
 use Rattle.equality.specs.Table.{Told}
 use Rattle.equality.specs.declared.Verdict.{Verdict}

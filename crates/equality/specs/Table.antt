@@ -3,7 +3,7 @@
 use Prim.Native.Nat.{ℕ, _≤_, _<_}
 use mathlib.Core.Path.{_≡_}
 use mathlib.Core.Logic.{_↔_}
-use Rattle.encoder.specs.Encode.{wordLimit}
+use Rattle.terms.specs.Limits.{wordLimit}
 use Rattle.equality.specs.declared.Verdict.{Verdict}
 use Rattle.equality.specs.Numbers.{numberOf, wordOf, placeOf, equalOf}
 

@@ -1,18 +1,14 @@
 // The equality question: two words, a limit and a choice of code.
+use chosen::Choice;
+use chosen::chosen;
 use encoder::Answer;
-use encoder::Choice;
 use encoder::Encoder;
-use encoder::Limit;
-use encoder::WORD_LIMIT;
-use encoder::chosen;
+use terms::CODE_ROOM;
+use terms::Limit;
 ghost use mathlib.Core.Path.{_≡_};
 ghost use Rattle.rules.specs.declared.Edition.the-variants.{E1};
-ghost use Rattle.encoder.specs.Chosen.{codeOf};
-ghost use Rattle.windows.specs.Text.{same};
+ghost use Rattle.demands.specs.Code.{codeOf};
 ghost use Rattle.equality.specs.Equality.{compared, unlessRefused, Answered};
-
-// A code of any accepted word has room here, whatever the limit.
-const CODE_ROOM: usize = 2 * WORD_LIMIT - 1;
 
 // The refusals 1 and 2 of document 01 name the word, 1 or 2, and the second its place.
 pub enum Verdict {
@@ -20,23 +16,6 @@ pub enum Verdict {
     Different,
     TooLong(u8),
     NotAscii(u8, usize),
-}
-
-// Whether two codes are the same bytes.
-pub fn same_bytes(x: &[u8], y: &[u8]) -> bool
-    ensures { λ r. ⌜ r ≡ same (now (x .entry)) (now (y .entry)) ⌝ }
-{
-    if x.len() != y.len() {
-        return false;
-    }
-    let mut i = 0;
-    while i < x.len() {
-        if x[i] != y[i] {
-            return false;
-        }
-        i += 1;
-    }
-    true
 }
 
 // The second word against the first one's code. CODE_ROOM is enough, so no buffer is found too short.
@@ -51,7 +30,7 @@ fn against(limit: Limit, choice: Choice, code: &[u8], two: &[u8]) -> Verdict
             alternate,
             visits: _,
         } => {
-            if same_bytes(code, chosen(choice, &p, primary, &a, alternate)) {
+            if slices::same_bytes(code, chosen(choice, &p, primary, &a, alternate)) {
                 Verdict::Equal
             } else {
                 Verdict::Different

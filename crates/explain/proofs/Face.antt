@@ -4,7 +4,7 @@ use Prim.Native.Nat.{ℕ}
 use mathlib.Core.Path.{_≡_, ap, _∙_}
 use mathlib.Core.List.{List}
 use lib.ListN.{length}
-use Rattle.encoder.specs.declared.Limit.{Limit}
+use Rattle.terms.specs.declared.Limit.{Limit}
 use Rattle.listing.specs.declared.Told.{Told}
 use Rattle.listing.specs.Listing.{toldOf, roomOf, Explained}
 use Rattle.explain.specs.Face.{toldNumbers}

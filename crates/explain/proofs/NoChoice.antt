@@ -1,5 +1,5 @@
 -- The exported function's promise leaves no choice: for the same arguments, any two answers and any two rooms at exit that it admits are
--- equal. Assumes nothing.
+-- equal.
 use mathlib.Core.Path.{_≡_, sym, _∙_}
 use borrow.Fn.Kinds.{Dens, resT, endedOf}
 use denote.Ref.{now}

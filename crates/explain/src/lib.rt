@@ -1,12 +1,12 @@
 // The C face of the listing, on numbers and slices of numbers only. It is a crate, and with that a compiled module, of its own: a second
 // caller of `letters::visit_at` in the module of crates/simmerquilt would keep the letter rules from being compiled into the walk, and
 // cost the encoder a quarter of its speed. host/native-build puts both modules into one archive.
-use answers::limit_of;
+use asking::limit_of;
 use listing::Told;
 ghost use mathlib.Core.Path.{_≡_};
 ghost use lib.ListN.{length};
-ghost use Rattle.answers.specs.Numbers.{limitOf};
 ghost use Rattle.listing.specs.Listing.{toldOf, roomOf};
+ghost use Rattle.asking.specs.Asked.{limitOf};
 ghost use Rattle.explain.specs.Face.{toldNumbers};
 
 // Number, place, and how many rows.

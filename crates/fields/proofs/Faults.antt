@@ -1,4 +1,4 @@
--- Which faults a reading can give. Assumes nothing.
+-- Which faults a reading can give.
 use Prim.Native.Nat.{ℕ, zero, suc, _-_}
 use mathlib.Core.Path.{_≡_, refl, sym}
 use mathlib.Core.Bool.{Bool, true, false, cond}

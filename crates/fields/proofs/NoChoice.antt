@@ -1,16 +1,10 @@
 -- No public function's promise leaves a choice: for the same arguments, any two results that it admits are equal, and so is the
--- lent room at exit. Of the part that `bytes_of` hands back, its bytes. Assumes nothing.
+-- lent room at exit.
 use mathlib.Core.Path.{_≡_, sym, _∙_}
 use borrow.Fn.Kinds.{Dens, resT, endedOf}
 use denote.Ref.{now}
 use denote.Triple.Clauses.{AtExit}
-use Rattle.windows.proofs.Choice.{OneResult}
-use Rattle.fields.proofs.least.Kinds as least-kinds
-use Rattle.fields.proofs.least.Reads as least
-use Rattle.fields.proofs.bytes_of.Kinds as bytes-of-kinds
-use Rattle.fields.proofs.bytes_of.Reads as bytes-of
-use Rattle.fields.proofs.left_from.Kinds as left-from-kinds
-use Rattle.fields.proofs.left_from.Reads as left-from
+use Rattle.basics.proofs.Choice.{OneResult}
 use Rattle.fields.proofs.number_at.Kinds as number-at-kinds
 use Rattle.fields.proofs.number_at.Reads as number-at
 use Rattle.fields.proofs.bytes_at.Kinds as bytes-at-kinds
@@ -25,12 +19,6 @@ use Rattle.fields.proofs.put_text.Kinds as put-text-kinds
 use Rattle.fields.proofs.put_text.Reads as put-text
 use contract.Lifetimes.{Lfts}
 
-pub one-least : OneResult least-kinds.ps least-kinds.r least.Post
-one-least κs a x y s t p q = p ∙ sym q
-
-pub one-left-from : OneResult left-from-kinds.ps left-from-kinds.r left-from.Post
-one-left-from κs a x y s t p q = p ∙ sym q
-
 pub one-number-at : OneResult number-at-kinds.ps number-at-kinds.r number-at.Post
 one-number-at κs a x y s t p q = p ∙ sym q
 
@@ -39,10 +27,6 @@ one-bytes-at κs a x y s t p q = p ∙ sym q
 
 pub one-text-at : OneResult text-at-kinds.ps text-at-kinds.r text-at.Post
 one-text-at κs a x y s t p q = p ∙ sym q
-
-module _ (κs : Lfts 1) (a : Dens κs bytes-of-kinds.ps) (x y : resT bytes-of-kinds.r κs .Denot) (s t : AtExit (endedOf 1 bytes-of-kinds.ps bytes-of-kinds.r) κs) where
-  pub one-bytes-of : bytes-of.Post κs a x s → bytes-of.Post κs a y t → now x ≡ now y
-  one-bytes-of p q = p ∙ sym q
 
 pub one-text-size : OneResult text-size-kinds.ps text-size-kinds.r text-size.Post
 one-text-size κs a x y s t p q = p ∙ sym q

@@ -1,22 +1,17 @@
--- Bytes put one behind the other, and how many a number and a text take. Assumes nothing.
+-- Bytes put one behind the other, and how many a number and a text take.
 use Prim.Native.Nat.{ℕ, zero, suc, _+_, _/_, _%_, _^_, _≤_, _<_}
-use mathlib.Core.Path.{_≡_, refl, sym, ap, _∙_}
+use mathlib.Core.Path.{_≡_, refl, ap, _∙_}
 use mathlib.Core.Bool.{Bool, true, false, cond}
 use mathlib.Core.List.{List, [], _∷_, _++_}
 use native.Mathlib.Omega.{arith}
 use lib.Dec.{ltb}
-use lib.ListN.{length, drop, set, length-append}
+use lib.ListN.{length, length-append}
 use lib.Seq.{sets, length-sets}
 use Rattle.number.specs.Septets.{groups, leaves}
 use Rattle.number.proofs.Laws.{room}
 use Rattle.fields.specs.Field.{number, text}
 use Rattle.fields.specs.Put.{Put}
-
-pub sets-append : (x l y : List ℕ) (at : ℕ) → sets (sets l at x) (at + length x) y ≡ sets l at (x ++ y)
-sets-append [] l y at = ap (λ (k : ℕ). sets l k y) (omega arith)
-sets-append (v ∷ x) l y at =
-    let e : at + suc (length x) ≡ suc at + length x = omega arith in
-    ap (λ (k : ℕ). sets (sets (set l at v) (suc at) x) k y) e ∙ sets-append x (set l at v) y (suc at)
+use Rattle.basics.proofs.Sets.{sets-append}
 
 pub put-then : {out : List ℕ} {at : ℕ} {x : List ℕ} {r : ℕ} {mid y : List ℕ} {r′ : ℕ} {out′ : List ℕ} → Put out at x r mid → Put mid r y r′ out′ → Put out at (x ++ y) r′ out′
 put-then {out} {at} {x} {r} {mid} {y} p q = record {
@@ -56,13 +51,6 @@ text-length t = length-append (number (length t)) t
 pub text-put : (out : List ℕ) (at : ℕ) (t : List ℕ) (r : ℕ) (mid out′ : List ℕ) → Put out at (number (length t)) r mid → out′ ≡ sets mid r t → Put out at (text t) (r + length t) out′
 unfolding text
 text-put out at t r mid out′ p e = put-then p (record { next = refl; leaves = e })
-
--- one byte more of a copy
-pub copied : (out src : List ℕ) (at i : ℕ) (all : List ℕ) (v : ℕ) → i < length src → drop i src ≡ v ∷ drop (i + 1) src → sets out (at + i) (drop i src) ≡ all
-    → sets (set out (at + i) v) (at + (i + 1)) (drop (i + 1) src) ≡ all
-copied out src at i all v h d e =
-    let k : at + (i + 1) ≡ suc (at + i) = omega arith in
-    ap (λ (n : ℕ). sets (set out (at + i) v) n (drop (i + 1) src)) k ∙ ap (sets out (at + i)) (sym d) ∙ e
 
 pub text-takes : (t : List ℕ) (w : ℕ) → w ≡ length (groups 4 (length t)) → w + length t ≡ length (text t)
 text-takes t w e = omega (arith, text-length t, wide (length t) w e)

@@ -2,24 +2,23 @@
 use Prim.Native.Nat.{ℕ, _+_, _-_, _≤_, _<_}
 use mathlib.Core.Path.{_≡_, refl, sym, ap, _∙_}
 use mathlib.Core.Bool.{true}
-use mathlib.Core.List.{List, []}
+use mathlib.Core.List.{List}
 use native.Mathlib.Omega.{arith}
-use borrow.Author.Tests.{lt-ltb, le-ltb}
 use lib.ListN.{length, take, drop, length-drop}
 use lib.Seq.{drop-drop, length-take-le}
 use Rattle.number.specs.declared.Found.{Found}
 use Rattle.number.specs.declared.Found.the-variants.{Number, Bad, Short}
 use Rattle.number.specs.Septets.{reads}
 use Rattle.number.proofs.Laws.{reads-within}
-use Rattle.fields.specs.declared.Span.{Span}
-use Rattle.fields.specs.declared.Value.the-variants as value
+use Rattle.slices.specs.declared.Span.{Span}
 use Rattle.fields.specs.declared.Part.{Part}
-use Rattle.fields.specs.declared.Part.the-variants as part
 use Rattle.fields.specs.Got.{Got, good, bad, readBoth}
 use Rattle.fields.specs.Field.{number, judged, readNumber, readBytes, readText, any}
-use Rattle.fields.specs.Told.{valueAt, spanAt, partAt, bytesAt, within}
+use Rattle.fields.specs.Told.{valueAt, spanAt, partAt, bytesAt}
 use Rattle.fields.proofs.Law.{paired, first-bad, second-bad}
 use Rattle.fields.proofs.Field.{Bytewise, number-good, number-bad, number-short, number-read, number-judged, number-law, bytes-read, bytes-good, bytes-short, none-in, text-good, text-bad, length-bad}
+use Rattle.fields.specs.declared.Value.the-variants as value
+use Rattle.fields.specs.declared.Part.the-variants as part
 
 -- ---- numbers
 pub record ValueTold (at v next : ℕ) (x : Got ℕ) : Type 0 where
@@ -149,11 +148,3 @@ module _ {A B : Type 0} (r : List ℕ → Got A) (t : List ℕ → Got B) (s : L
 
   pub then-second : (a : A) (i f : ℕ) → r (drop at s) ≡ good a i → t (drop (at + i) s) ≡ bad f → readBoth r t (drop at s) ≡ bad f
   then-second a i f e d = second-bad r t (drop at s) a i f e (rw (drop-drop i at s) d)
-
--- ---- the bytes of a part
-module _ (s : List ℕ) (p : Span) where
-  pub outside : length s < p .start + p .len → [] ≡ within s p
-  outside h = rw (lt-ltb (length s) (p .start + p .len) h)
-
-  pub inside : p .start + p .len ≤ length s → take (p .start + p .len - p .start) (drop (p .start) s) ≡ within s p
-  inside h = let e : p .start + p .len - p .start ≡ p .len = omega arith in rw (le-ltb (length s) (p .start + p .len) h, e)

@@ -1,16 +1,14 @@
 -- What the readers of fields answer: where a good field lies, and where the next begins.
 use Prim.Native.Nat.{ℕ, _+_}
-use mathlib.Core.Bool.{cond}
-use mathlib.Core.List.{List, []}
-use lib.Dec.{ltb}
-use lib.ListN.{length, take, drop}
-use Rattle.fields.specs.declared.Span.{Span}
+use mathlib.Core.List.{List}
+use lib.ListN.{length}
+use Rattle.slices.specs.declared.Span.{Span}
 use Rattle.fields.specs.declared.Value.{Value}
-use Rattle.fields.specs.declared.Value.the-variants as value
 use Rattle.fields.specs.declared.Part.{Part}
-use Rattle.fields.specs.declared.Part.the-variants as part
 use Rattle.fields.specs.Got.{Got, good, bad}
 use Rattle.fields.specs.Field.{number}
+use Rattle.fields.specs.declared.Value.the-variants as value
+use Rattle.fields.specs.declared.Part.the-variants as part
 
 -- a number that was read at a place
 abbrev pub valueAt : ℕ → Got ℕ → Value
@@ -29,7 +27,3 @@ partAt at (bad f) = part.Fault f
 abbrev pub bytesAt : ℕ → Got (List ℕ) → Part
 bytesAt at (good t n) = part.At (record { start = at; len = n }) (at + n)
 bytesAt at (bad f) = part.Fault f
-
--- the bytes of a part, and none where it does not lie in s
-abbrev pub within : List ℕ → Span → List ℕ
-within s p = cond (ltb (length s) (p .start + p .len)) [] (take (p .len) (drop (p .start) s))

@@ -1,55 +1,22 @@
 // The fields of a book, a number and a text behind its length: read at any place, and put where there is room.
+use slices::Span;
+use terms::BAD_NUMBER;
+use terms::BOOK_ENDS;
 ghost use mathlib.Core.Path.{_≡_};
-ghost use Prim.Native.Nat.{_+_, _-_, _^_, _≤_, _<_, min};
+ghost use Prim.Native.Nat.{_+_, _^_, _≤_, _<_};
 ghost use lib.ListN.{length, drop};
-ghost use lib.Seq.{sets};
 ghost use Rattle.fields.specs.Field.{number, text, readNumber, readBytes, readText, any};
 ghost use Rattle.fields.specs.Put.{Put};
-ghost use Rattle.fields.specs.Told.{valueAt, partAt, bytesAt, within};
+ghost use Rattle.fields.specs.Told.{valueAt, partAt, bytesAt};
 
 pub enum Value {
     At { value: u32, next: usize },
     Fault(u8),
 }
 
-pub struct Span {
-    pub start: usize,
-    pub len: usize,
-}
-
 pub enum Part {
     At { span: Span, next: usize },
     Fault(u8),
-}
-
-// The smaller of two.
-pub fn least(a: usize, b: usize) -> usize
-    ensures { λ r. ⌜ r ≡ min a b ⌝ }
-{
-    if a < b { a } else { b }
-}
-
-// The bytes of a part, and none where it does not lie in `s`.
-pub fn bytes_of(s: &[u8], span: Span) -> &[u8]
-    ensures { λ r. ⌜ now r ≡ within (now (s .entry)) span ⌝ }
-{
-    let start = span.start;
-    let len = span.len;
-    if s.len() < start {
-        return &s[..0];
-    }
-    if s.len() - start < len {
-        return &s[..0];
-    }
-    let end = start + len;
-    &s[start..end]
-}
-
-// How many bytes there are from a place on.
-pub fn left_from(s: &[u8], at: usize) -> usize
-    ensures { λ r. ⌜ r ≡ length (now (s .entry)) - at ⌝ }
-{
-    if s.len() <= at { 0 } else { s.len() - at }
 }
 
 // The number at a place.
@@ -62,8 +29,8 @@ pub fn number_at(s: &[u8], at: usize) -> Value
             value,
             next: at + used,
         },
-        number::Found::Bad => Value::Fault(5),
-        number::Found::Short => Value::Fault(6),
+        number::Found::Bad => Value::Fault(BAD_NUMBER),
+        number::Found::Short => Value::Fault(BOOK_ENDS),
     }
 }
 
@@ -71,8 +38,8 @@ pub fn number_at(s: &[u8], at: usize) -> Value
 pub fn bytes_at(s: &[u8], start: usize, len: usize) -> Part
     ensures { λ r. ⌜ r ≡ bytesAt start (readBytes any len (drop start (now (s .entry)))) ⌝ }
 {
-    if left_from(s, start) < len {
-        return Part::Fault(6);
+    if slices::left_from(s, start) < len {
+        return Part::Fault(BOOK_ENDS);
     }
     Part::At {
         span: Span { start, len },
@@ -91,18 +58,6 @@ pub fn text_at(s: &[u8], at: usize) -> Part
     }
 }
 
-// Copies `src` to `at`.
-fn copy_to(out: &mut [u8], at: usize, src: &[u8])
-    requires { ⌜ at + length (now src) ≤ length (now out) ⌝ }
-    ensures { λ _. ⌜ now (out .exit) ≡ sets (now (out .entry)) at (now (src .entry)) ⌝ }
-{
-    let mut i = 0;
-    while i < src.len() {
-        out[at + i] = src[i];
-        i += 1;
-    }
-}
-
 // Puts a number at a place, and gives the place behind it.
 pub fn put_number(out: &mut [u8], at: usize, x: u32) -> usize
     requires { ⌜ (x < 2 ^ 28) × (at + length (number x) ≤ length (now out)) ⌝ }
@@ -118,7 +73,7 @@ pub fn put_text(out: &mut [u8], at: usize, t: &[u8]) -> usize
     ensures { λ r. ⌜ Put (now (out .entry)) at (text (now (t .entry))) r (now (out .exit)) ⌝ }
 {
     let body = put_number(out, at, t.len() as u32);
-    copy_to(out, body, t);
+    slices::copy_to(out, body, t);
     body + t.len()
 }
 

@@ -1,3 +1,3 @@
--- The index of a book's records in lent scratch.
---     Chain    chains by slot, and runs by key
-pub mod Chain
+-- Runs of stations.
+--     Runs   runs of stations, one a key
+pub mod Runs

@@ -1,12 +1,12 @@
 // The line reader: reads standard input in blocks, and writes for each line what `lines` makes of it.
-use encoder::WORD_LIMIT;
 use libc::STDERR_FILENO;
 use libc::STDIN_FILENO;
 use libc::STDOUT_FILENO;
-use lines::LINE_ROOM;
+use line::LINE_ROOM;
+use terms::WORD_LIMIT;
 ghost use Prim.Native.Nat.{_≤_};
 ghost use lib.ListN.{length};
-ghost use Rattle.lines.specs.Feed.{lineRoom};
+ghost use Rattle.line.specs.Line.{lineRoom};
 
 // What a block leaves: the bytes held of the line that is not ended, whether there may be more to read, and whether no call failed.
 struct Turn {

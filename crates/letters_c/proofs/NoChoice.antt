@@ -1,6 +1,6 @@
--- No public function's promise leaves a choice: for the same arguments, any two results that it admits are equal. Assumes nothing.
+-- No public function's promise leaves a choice: for the same arguments, any two results that it admits are equal.
 use mathlib.Core.Path.{sym, _∙_}
-use Rattle.windows.proofs.Choice.{OneResult}
+use Rattle.basics.proofs.Choice.{OneResult}
 use Rattle.letters_c.proofs.handle_c.Kinds as handle-c-kinds
 use Rattle.letters_c.proofs.handle_c.Reads as handle-c
 

@@ -1,2 +1,2 @@
--- For the proofs: the trees of this crate's letters. The definition is in the crate rules.
+-- For the proofs: the trees of G.
 pub mod Trees

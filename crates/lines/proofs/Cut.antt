@@ -1,11 +1,12 @@
--- Any feeds and a finish write the definition's output of all that was read: where the input was cut does not matter. Assumes nothing.
+-- Any feeds and a finish write the definition's output of all that was read: where the input was cut does not matter.
 use Prim.Native.Nat.{ℕ}
 use mathlib.Core.Path.{_≡_, refl, sym, ap, _∙_}
 use mathlib.Core.List.{List, [], _++_}
 use native.Mathlib.Omega.{arith}
 use lib.ListN.{length, take}
 use lib.Seq.{take-at}
-use Rattle.encoder.specs.Encode.{wordLimit, filled}
+use Rattle.terms.specs.Limits.{wordLimit}
+use Rattle.encoder.specs.Encode.{filled}
 use Rattle.lines.specs.Lines.{ended, begun, last, written, outputOf, linesOf}
 use Rattle.lines.specs.Feed.{Hand, hand, Holds, Finished, Run, start, fed}
 use Rattle.lines.proofs.Split.{ended-append, begun-append, written-append}
@@ -40,9 +41,9 @@ sofar (fed {i} {o} {h} {block} {out} {word′} {out′} {r} run x) = fed-on (sof
           long = long;
         }
 
-pub whole-output : {i o out out′ : List ℕ} {h : Hand} {n : ℕ} → Run i o h → Finished h out n out′ → o ++ take n out′ ≡ outputOf i
+pub lines-output : {i o out out′ : List ℕ} {h : Hand} {n : ℕ} → Run i o h → Finished h out n out′ → o ++ take n out′ ≡ outputOf i
 unfolding outputOf linesOf
-whole-output {i} {o} {out} {out′} {h} {n} run x =
+lines-output {i} {o} {out} {out′} {h} {n} run x =
     let s = sofar run in
     let p : List ℕ = begun [] i in
     ap (λ (a : List ℕ). a ++ take n out′) (s .output)
@@ -50,6 +51,6 @@ whole-output {i} {o} {out} {out′} {h} {n} run x =
     ∙ sym (written-append (ended [] i) (last p))
 
 -- two readers of one input, each with its own cuts and its own room, write the same
-pub cut-anywhere : {i o o₂ out out′ out₂ out₂′ : List ℕ} {h h₂ : Hand} {n n₂ : ℕ} → Run i o h → Finished h out n out′ → Run i o₂ h₂ → Finished h₂ out₂ n₂ out₂′
+pub lines-cut-anywhere : {i o o₂ out out′ out₂ out₂′ : List ℕ} {h h₂ : Hand} {n n₂ : ℕ} → Run i o h → Finished h out n out′ → Run i o₂ h₂ → Finished h₂ out₂ n₂ out₂′
     → o ++ take n out′ ≡ o₂ ++ take n₂ out₂′
-cut-anywhere a x b y = whole-output a x ∙ sym (whole-output b y)
+lines-cut-anywhere a x b y = lines-output a x ∙ sym (lines-output b y)

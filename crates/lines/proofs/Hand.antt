@@ -1,4 +1,4 @@
--- What is held of a line, byte by byte. Assumes nothing.
+-- What is held of a line, byte by byte.
 use Prim.Native.Nat.{ℕ, suc, _+_, _≤_, _<_}
 use mathlib.Core.Path.{_≡_, refl, sym, ap, subst, _∙_}
 use mathlib.Core.List.{List, [], _∷_, _++_}
@@ -9,7 +9,7 @@ use borrow.Author.Tests.{ltb-true, ltb-false, lt-ltb, le-ltb}
 use lib.Dec.{eqb, ltb}
 use lib.ListN.{length, take, getD, set, replicate, length-append, length-set, length-take, length-replicate}
 use lib.Seq.{take-suc, take-suc-set}
-use Rattle.encoder.specs.Encode.{wordLimit}
+use Rattle.terms.specs.Limits.{wordLimit}
 use Rattle.lines.specs.Lines.{begun, last}
 use Rattle.lines.specs.Feed.{Hand, hand, Holds, keep, next, after}
 use Rattle.lines.proofs.Split.{begun-append}

@@ -1,14 +1,10 @@
 -- Laws of the line reader.
---     Place      bytes stored in a buffer; the parts of a line as they come to lie
---     Line       the line of a word, from the encoder's answer; `too-long-line`, `not-ascii-line`, `taken-line`: which it is
 --     Split      the lines of an input that is read in two parts; `split`, `split-one`: they are the input's lines and no others
 --     Hand       what is held of a line
 --     Read       one byte read, bytes read on, and the end of the input
---     Cut        `whole-output`: any feeds and a finish write the definition's output; `cut-anywhere`
+--     Cut        `lines-output`: any feeds and a finish write the definition's output; `lines-cut-anywhere`
 --     Sample     document 01's four lines, computed
 --     NoChoice   no public function's promise leaves a choice
-pub mod Place
-pub mod Line
 pub mod Split
 pub mod Hand
 pub mod Read

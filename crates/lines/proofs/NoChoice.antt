@@ -1,5 +1,5 @@
 -- No public function's promise leaves a choice: for the same arguments, any two results that it admits are equal, and so are the
--- lent buffers at exit. Assumes nothing.
+-- lent buffers at exit.
 use Prim.Native.Nat.{ℕ, _<_}
 use mathlib.Core.Path.{_≡_, refl, sym, ap, _∙_}
 use mathlib.Core.List.{List}

@@ -1,4 +1,4 @@
--- One byte read, bytes read on, and the end of the input. Assumes nothing.
+-- One byte read, bytes read on, and the end of the input.
 use Prim.Native.Nat.{ℕ, _+_, _≤_, _<_}
 use mathlib.Core.Path.{_≡_, refl, sym, ap, subst, _∙_}
 use mathlib.Core.List.{List, [], _∷_, _++_, append-nil}
@@ -9,13 +9,16 @@ use borrow.Author.Tests.{ltb-true, ltb-false, eq-eqb, ne-eqb}
 use lib.Dec.{ltb}
 use lib.ListN.{length, take, drop, getD, length-append}
 use lib.Seq.{sets, take-suc}
-use Rattle.encoder.specs.Encode.{wordLimit, filled}
+use Rattle.terms.specs.Limits.{wordLimit}
+use Rattle.encoder.specs.Encode.{filled}
 use Rattle.lines.specs.declared.Counts.{Counts}
 use Rattle.lines.specs.declared.Progress.{Progress}
-use Rattle.lines.specs.Lines.{lineOf, ended, begun, last, written}
-use Rattle.lines.specs.Feed.{lineRoom, Hand, hand, Holds, keep, Read, Fed, Finished}
+use Rattle.line.specs.Line.{lineOf, lineRoom}
+use Rattle.lines.specs.Lines.{ended, begun, last, written}
+use Rattle.lines.specs.Feed.{Hand, hand, Holds, keep, Read, Fed, Finished}
 use Rattle.lines.specs.Inside.{Answered, Stepped}
-use Rattle.lines.proofs.Place.{sets-filled, sets-append}
+use Rattle.basics.proofs.Sets.{sets-append}
+use Rattle.line.proofs.Place.{sets-filled}
 use Rattle.lines.proofs.Split.{ended-append, written-append}
 use Rattle.lines.proofs.Hand.{some-held, none-held, one-held}
 
@@ -71,7 +74,7 @@ module _ (p block out : List ℕ) (used : ℕ) (inside : used < length block) wh
       s .output (begun p (take used block)) q
       ∙ ap (λ (l : List ℕ). sets l wrote byte) (x .output ∙ sym (sets-filled out before (omega (arith, x .wrote-is))))
       ∙ ap (λ (k : ℕ). sets (sets out 0 before) k byte) (omega (arith, x .wrote-is))
-      ∙ sym (sets-append before byte out 0)
+      ∙ sets-append before out byte 0
       in
       record {
         wrote-is = long ∙ sym (ap length both);

@@ -1,4 +1,4 @@
--- The lines of an input that is read in two parts; and the lines are those between the bytes 10, and no others. Assumes nothing.
+-- The lines of an input that is read in two parts; and the lines are those between the bytes 10, and no others.
 use Prim.Native.Nat.{ℕ}
 use mathlib.Core.Path.{_≡_, refl, sym, ap, subst, _∙_}
 use mathlib.Core.List.{List, [], _∷_, _++_, append-assoc, append-nil}
@@ -6,7 +6,8 @@ use mathlib.Core.Bool.{Bool, true, false, _||_}
 use native.Mathlib.Omega.{arith}
 use borrow.Author.Tests.{eqb-true}
 use lib.Dec.{eqb}
-use Rattle.lines.specs.Lines.{lineOf, ended, begun, written, joined, hasEnd, someEnd, Split}
+use Rattle.line.specs.Line.{lineOf}
+use Rattle.lines.specs.Lines.{ended, begun, written, joined, hasEnd, someEnd, Split}
 
 -- either way on after a byte x
 ended-on : (p a b : List ℕ) (x : ℕ) (t : Bool) → eqb x 10 ≡ t → ended [] (a ++ b) ≡ ended [] a ++ ended (begun [] a) b

@@ -1,19 +1,17 @@
 -- What `feed` and `finish` promise, for blocks of an input that is cut anywhere: what is written, what is held of the line that is
 -- not ended, and how far a block is read, after document 01's "A line over 1,024 bytes gives !1 and is read through to its end".
--- `whole-output` of proofs/Cut.antt shows that any feeds and a finish write the definition's output of the whole input.
+-- `lines-output` of proofs/Cut.antt shows that any feeds and a finish write the definition's output of the whole input.
 use Prim.Native.Nat.{ℕ, suc, _+_, _≤_, _<_}
 use mathlib.Core.Path.{_≡_}
 use mathlib.Core.List.{List, [], _∷_, _++_}
 use mathlib.Core.Bool.{cond}
 use lib.Dec.{eqb, ltb}
 use lib.ListN.{length, take, set}
-use Rattle.encoder.specs.Encode.{wordLimit, filled}
+use Rattle.terms.specs.Limits.{wordLimit}
+use Rattle.encoder.specs.Encode.{filled}
 use Rattle.lines.specs.declared.Progress.{Progress}
 use Rattle.lines.specs.Lines.{ended, last, written}
-
--- the longest line that is written: two codes of 4 bytes, a tab and byte 10
-abbrev pub lineRoom : ℕ
-lineRoom = 10
+use Rattle.line.specs.Line.{lineRoom}
 
 -- the bytes held of a line: how many, and the buffer they lie in
 pub record Hand : Type 0 where

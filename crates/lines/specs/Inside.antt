@@ -1,19 +1,13 @@
 -- What the functions below `feed` and `finish` promise each other; no caller sees it.
-use Prim.Native.Nat.{ℕ, _+_, _-_, _≤_}
+use Prim.Native.Nat.{ℕ, _+_, _≤_}
 use mathlib.Core.Path.{_≡_}
 use mathlib.Core.List.{List, [], _∷_}
-use lib.ListN.{length, take, drop}
+use lib.ListN.{length}
 use lib.Seq.{sets}
-use Rattle.lines.specs.declared.Span.{Span}
 use Rattle.lines.specs.declared.Counts.{Counts}
-use Rattle.lines.specs.Lines.{lineOf, ended, written}
-use Rattle.lines.specs.Feed.{lineRoom, Hand, hand, Holds, next}
-
--- the line l lies in the buffer, from the span's start to its end
-pub record Lies (l : List ℕ) (s : Span) (buf : List ℕ) : Type 0 where
-  pub ordered : s .start ≤ s .end
-  pub within : s .end ≤ length buf
-  pub bytes : take (s .end - s .start) (drop (s .start) buf) ≡ l
+use Rattle.line.specs.Line.{lineOf, lineRoom}
+use Rattle.lines.specs.Lines.{ended, written}
+use Rattle.lines.specs.Feed.{Hand, hand, Holds, next}
 
 -- the line of what is held, of n bytes, was stored in the output from `wrote` on
 pub record Answered (h : Hand) (out : List ℕ) (wrote n : ℕ) (out′ : List ℕ) : Type 0 where

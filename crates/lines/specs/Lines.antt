@@ -1,26 +1,12 @@
 -- What the line reader writes, as a function of its whole input, after document 01's "A line ends at byte 10; a last line without it
 -- counts; nothing after a final byte 10 is no line. For each it writes primary, tab, alternate, byte 10", "A refusal writes !, its
 -- number and byte 10 instead". `split` and `split-one` of proofs/Split.antt show that these are the input's lines and no others.
-use Prim.Native.Nat.{ℕ, zero, suc, _+_}
+use Prim.Native.Nat.{ℕ}
 use mathlib.Core.Path.{_≡_}
 use mathlib.Core.List.{List, [], _∷_, _++_}
 use mathlib.Core.Bool.{Bool, false, cond, _||_}
 use lib.Dec.{eqb}
-use Rattle.rules.specs.declared.Edition.the-variants.{E1}
-use Rattle.encoder.specs.declared.Limit.the-variants.{At}
-use Rattle.encoder.specs.Trim.{trimmed}
-use Rattle.encoder.specs.Encode.{defaultLimit, numberOf, answerOf, primaryOf, alternateOf}
-
--- the line for an answer of the encoder, by its number and the two codes
-abbrev pub lineBy : ℕ → List ℕ → List ℕ → List ℕ
-lineBy zero p a = p ++ 9 ∷ (a ++ 10 ∷ [])
-lineBy (suc n) p a = 33 ∷ (48 + suc n) ∷ 10 ∷ []
-
--- the line of a word, under edition 1 and the default limit: buffers of as many bytes are never too short
-unfoldable pub lineOf : List ℕ → List ℕ
-lineOf w =
-    lineBy (numberOf (answerOf E1 (At defaultLimit) w defaultLimit defaultLimit)) (primaryOf E1 (At defaultLimit) (trimmed w))
-    (alternateOf E1 (At defaultLimit) (trimmed w))
+use Rattle.line.specs.Line.{lineOf}
 
 -- the lines that end in i, and the line that is begun behind them, where the first begins with p
 unfoldable pub ended : List ℕ → List ℕ → List (List ℕ)

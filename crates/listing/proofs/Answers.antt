@@ -1,4 +1,4 @@
--- The listing's answers: each refusal exactly when, and what an answer of the encoder means for the listing. Assumes nothing.
+-- The listing's answers: each refusal exactly when, and what an answer of the encoder means for the listing.
 use Prim.Native.Nat.{ℕ, _/_, _*_, _-_, _≤_, _<_}
 use mathlib.Core.Path.{_≡_, refl, sym, ap, subst, _∙_}
 use mathlib.Core.Bool.{Bool, true, false, false≢true, cond}
@@ -13,24 +13,27 @@ use Rattle.rules.specs.declared.Edition.{Edition}
 use Rattle.rules.specs.declared.Edition.the-variants.{E1, E2}
 use Rattle.walk.specs.Walk.{filled}
 use Rattle.walk.specs.Word.{visitsOf}
-use Rattle.encoder.specs.declared.Limit.{Limit}
+use Rattle.terms.specs.declared.Limit.{Limit}
 use Rattle.encoder.specs.declared.Answer.{Answer}
 use Rattle.encoder.specs.declared.Answer.the-variants as answer
-use Rattle.encoder.specs.declared.Reply.{Reply}
-use Rattle.encoder.specs.declared.Reply.the-variants as reply
-use Rattle.encoder.specs.Trim.{trimmed, firstHigh}
-use Rattle.encoder.specs.Encode.{wordLimit, numberOf, placeOf, visitCount, visitsUnder, Encoded}
-use Rattle.encoder.specs.Editions.{isUnknown, editionOf, replyOf, replyNumber, EncodedIn}
-use Rattle.encoder.proofs.Trim.{trimmed-length}
-use Rattle.encoder.proofs.Demand2.{accepted, walked}
-use Rattle.encoder.proofs.Editions.{seven, as-encoded}
-use Rattle.encoder.proofs.Room.{never-three, never-four}
+use Rattle.editions.specs.declared.Reply.{Reply}
+use Rattle.editions.specs.declared.Reply.the-variants as reply
+use Rattle.prepare.specs.Trim.{trimmed, firstHigh}
+use Rattle.terms.specs.Limits.{wordLimit}
+use Rattle.encoder.specs.Encode.{numberOf, placeOf, visitCount, visitsUnder, Encoded}
+use Rattle.terms.specs.Editions.{isUnknown}
+use Rattle.editions.specs.Editions.{editionOf, replyOf, replyNumber, EncodedIn}
+use Rattle.prepare.proofs.Trim.{trimmed-length}
+use Rattle.demands.proofs.Demand2.{code-accepted, code-walked}
+use Rattle.editions.proofs.Editions.{edition-seven, edition-encoded}
+use Rattle.demands.proofs.Room.{never-three, never-four}
 use Rattle.rows.specs.Listing.{rowAt, listingOf, allNumbers}
 use Rattle.rows.proofs.Rows.{visits-within}
 use Rattle.listing.specs.declared.Told.{Told}
 use Rattle.listing.specs.declared.Told.the-variants.{Rows, TooLong, NotAscii, UnknownEdition, RoomShort}
 use Rattle.listing.specs.Table.{Given}
-use Rattle.listing.specs.Listing.{inRoom, leftIn, toldOf, roomOf, Explained, editionIf, firstRows}
+use Rattle.listing.specs.Listing.{inRoom, leftIn, toldOf, roomOf, Explained}
+use Rattle.row_writer.specs.Written.{editionIf, firstRows}
 
 -- ---- each number exactly when, by its four tests
 module _ (n high room visits : ℕ) where
@@ -159,7 +162,7 @@ edition-back E2 = refl
 module _ {n : ℕ} {l : Limit} {w p a p′ a′ : List ℕ} {y : Reply} (e : EncodedIn n l w p a y p′ a′) where
   -- 7 is the edition's
   pub asked-unknown : y ≡ reply.UnknownEdition → isUnknown n ≡ true
-  asked-unknown q = seven e .0 (ap replyNumber q)
+  asked-unknown q = edition-seven e .0 (ap replyNumber q)
 
   module _ (r : Answer) (q : y ≡ reply.Answered r) where
     pub asked-known : isUnknown n ≡ false
@@ -172,7 +175,7 @@ module _ {n : ℕ} {l : Limit} {w p a p′ a′ : List ℕ} {y : Reply} (e : Enc
         by false h = h
 
     encoded : Encoded (editionOf n) l w p a r p′ a′
-    encoded = as-encoded asked-known (subst (λ (z : Reply). EncodedIn n l w p a z p′ a′) q e)
+    encoded = edition-encoded asked-known (subst (λ (z : Reply). EncodedIn n l w p a z p′ a′) q e)
 
     pub answered-long : r ≡ answer.TooLong → wordLimit < length w
     answered-long f = encoded .given .one .0 (ap numberOf f)
@@ -189,13 +192,13 @@ module _ {n : ℕ} {l : Limit} {w p a p′ a′ : List ℕ} {y : Reply} (e : Enc
     pub answered-four : 2 * wordLimit - 1 ≤ length p → 2 * wordLimit - 1 ≤ length a → r ≡ answer.AlternateShort → ⊥
     answered-four i j f = never-four encoded i j (ap numberOf f)
 
-    -- an accepted word, and its visits
+    -- an code-accepted word, and its visits
     module _ (i j k : ℕ) (f : r ≡ answer.Coded i j k) where
       pub answered-fits : (length w ≤ wordLimit) × (length w ≤ firstHigh w)
       answered-fits = let g = encoded .given .accepted .0 (ap numberOf f) in (g .0, g .1)
 
       pub answered-visits : k ≡ visitsUnder (editionOf n) l (trimmed w)
-      answered-visits = sym (ap visitCount f) ∙ ap visitCount (walked (editionOf n) (accepted encoded (ap numberOf f)) encoded .answer)
+      answered-visits = sym (ap visitCount f) ∙ ap visitCount (code-walked (editionOf n) (code-accepted encoded (ap numberOf f)) encoded .answer)
 
       -- the rows of its first visits, by the edition that the test tells, are its listing
       module _ (second : Bool) (ed : Edition) (s : second ≡ isSecond ed) (d : ed ≡ editionOf n) (t : List ℕ) (g : t ≡ trimmed w) where

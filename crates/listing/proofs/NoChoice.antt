@@ -1,5 +1,4 @@
 -- The listing's promise leaves no choice: for the same arguments, any two answers that it admits are equal, and so are the rooms at exit.
--- Assumes nothing.
 use mathlib.Core.Path.{_≡_, sym, _∙_}
 use borrow.Fn.Kinds.{Dens, resT, endedOf}
 use denote.Ref.{now}

@@ -1,21 +1,19 @@
 -- What `explain` promises for every edition, limit, word and room: its answer, and what it leaves in the room. The rows are those of
 -- `listingOf` (crates/rows/specs/Listing.antt). proofs/NoChoice.antt shows that nothing is left open.
-use Prim.Native.Nat.{ℕ, _/_, _^_, _<_}
-use mathlib.Core.Bool.{Bool, true, false, cond}
-use mathlib.Core.List.{List, map}
+use Prim.Native.Nat.{ℕ, _/_}
+use mathlib.Core.Bool.{cond}
+use mathlib.Core.List.{List}
 use mathlib.Core.Path.{_≡_}
 use lib.Dec.{ltb}
-use lib.ListN.{length, take}
-use Rattle.rules.specs.declared.Edition.{Edition}
-use Rattle.rules.specs.declared.Edition.the-variants.{E1, E2}
-use Rattle.rules.specs.declared.Spoken.{Spoken}
+use lib.ListN.{length}
 use Rattle.walk.specs.Walk.{filled}
-use Rattle.walk.specs.Word.{visitsOf}
-use Rattle.encoder.specs.declared.Limit.{Limit}
-use Rattle.encoder.specs.Trim.{trimmed, firstHigh}
-use Rattle.encoder.specs.Encode.{wordLimit, visitsUnder}
-use Rattle.encoder.specs.Editions.{isUnknown, editionOf}
-use Rattle.rows.specs.Listing.{Row, rowAt, listingOf, allNumbers}
+use Rattle.terms.specs.declared.Limit.{Limit}
+use Rattle.prepare.specs.Trim.{trimmed, firstHigh}
+use Rattle.terms.specs.Limits.{wordLimit}
+use Rattle.encoder.specs.Encode.{visitsUnder}
+use Rattle.terms.specs.Editions.{isUnknown}
+use Rattle.editions.specs.Editions.{editionOf}
+use Rattle.rows.specs.Listing.{Row, listingOf, allNumbers}
 use Rattle.listing.specs.declared.Told.{Told}
 use Rattle.listing.specs.declared.Told.the-variants.{Rows, TooLong, NotAscii, UnknownEdition, RoomShort}
 use Rattle.listing.specs.Table.{Given}
@@ -46,20 +44,3 @@ pub record Explained (n : ℕ) (l : Limit) (w room : List ℕ) (r : Told) (room�
   pub given : Given (isUnknown n) (length w) (firstHigh w) (length room / 7) (visitsUnder (editionOf n) l (trimmed w)) r
   pub answer : r ≡ toldOf n l w (length room)
   pub rows : room′ ≡ roomOf n l w room
-
--- ---- inside
--- the edition that a test tells
-abbrev pub editionIf : Bool → Edition
-editionIf true = E2
-editionIf false = E1
-
--- the rows of the first visits of a trimmed word
-unfoldable pub firstRows : Edition → ℕ → List ℕ → List Row
-firstRows ed k t = map (rowAt ed t) (take k (visitsOf ed t))
-
--- what a row tells fits its numbers
-pub record Small (place : ℕ) (s : Spoken) : Type 0 where
-  pub place-fits : place < 2 ^ 32
-  pub case-fits : s .case < 2 ^ 32
-  pub text-fits : s .text < 2 ^ 32
-  pub over-fits : s .visit .over < 2 ^ 32

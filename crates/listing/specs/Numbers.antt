@@ -1,14 +1,15 @@
 -- The number of each answer of the listing, the place, and how many rows there are.
 use Prim.Native.Nat.{ℕ}
+use Rattle.terms.specs.Refusals.{tooLong, notAscii, notKnown, noRoom}
 use Rattle.listing.specs.declared.Told.{Told}
 use Rattle.listing.specs.declared.Told.the-variants.{Rows, TooLong, NotAscii, UnknownEdition, RoomShort}
 
 abbrev pub numberOf : Told → ℕ
 numberOf (Rows n) = 0
-numberOf TooLong = 1
-numberOf (NotAscii at) = 2
-numberOf UnknownEdition = 7
-numberOf RoomShort = 9
+numberOf TooLong = tooLong
+numberOf (NotAscii at) = notAscii
+numberOf UnknownEdition = notKnown
+numberOf RoomShort = noRoom
 
 abbrev pub placeOf : Told → ℕ
 placeOf (Rows n) = 0

@@ -5,7 +5,7 @@ use Prim.Native.Nat.{ℕ, _≤_, _<_}
 use mathlib.Core.Bool.{Bool, true, false}
 use mathlib.Core.Logic.{_↔_}
 use mathlib.Core.Path.{_≡_}
-use Rattle.encoder.specs.Encode.{wordLimit}
+use Rattle.terms.specs.Limits.{wordLimit}
 use Rattle.listing.specs.declared.Told.{Told}
 use Rattle.listing.specs.Numbers.{numberOf, placeOf, rowsOf}
 

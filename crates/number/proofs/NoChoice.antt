@@ -1,10 +1,10 @@
 -- No public function's promise leaves a choice: for the same arguments, any two results that it admits are equal, and so is the
--- lent room at exit. Assumes nothing.
+-- lent room at exit.
 use mathlib.Core.Path.{_≡_, sym, _∙_}
 use borrow.Fn.Kinds.{Dens, resT, endedOf}
 use denote.Ref.{now}
 use denote.Triple.Clauses.{AtExit}
-use Rattle.windows.proofs.Choice.{OneResult}
+use Rattle.basics.proofs.Choice.{OneResult}
 use Rattle.number.proofs.read_number.Kinds as read-number-kinds
 use Rattle.number.proofs.read_number.Reads as read-number
 use Rattle.number.proofs.width.Kinds as width-kinds

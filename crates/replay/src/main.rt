@@ -1,20 +1,16 @@
 // Replays stored answers of the unchanged Rust, and prints how many the port gives too. A line of standard input is a limit (one digit, or
 // `-` for none), a tab, the visits, a tab, the primary code, a tab, the alternate code, a tab and the word. The word runs to the line's end, so
 // it may hold any byte but 10; a code holds neither a tab nor byte 10.
+use chosen::Choice;
+use chosen::chosen;
 use encoder::Answer;
-use encoder::Choice;
 use encoder::Encoder;
-use encoder::Limit;
-use encoder::WORD_LIMIT;
-use encoder::chosen;
 use libc::STDIN_FILENO;
 use libc::STDOUT_FILENO;
-ghost use mathlib.Core.Path.{_≡_};
-ghost use Prim.Native.Nat.{_+_, _≤_};
+use terms::CODE_ROOM;
+use terms::Limit;
+ghost use Prim.Native.Nat.{_≤_};
 ghost use lib.ListN.{length};
-
-// A code of any accepted word has room here, whatever the limit.
-const CODE_ROOM: usize = 2 * WORD_LIMIT - 1;
 
 struct Counts {
     right: u64,
@@ -125,16 +121,8 @@ fn replay(text: &[u8]) -> Counts {
     Counts { right, wrong }
 }
 
-// A mebibyte of zeros, for the whole list. A function makes it, whose contract gives the length alone: the checker would write a local
-// of this length out.
-fn room() -> [u8; 1048576]
-    ensures { λ r. ⌜ 1048576 ≡ length r ⌝ }
-{
-    [0; 1048576]
-}
-
 fn main() {
-    let mut text = room();
+    let mut text = rooms::mebibyte();
     let n = io::read_full(STDIN_FILENO, &mut text);
     let r = replay(&text[..n]);
     io::print_decimal(STDOUT_FILENO, r.right);

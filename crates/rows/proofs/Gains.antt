@@ -1,4 +1,4 @@
--- A gain that is told as one number has the bytes of the addition: no byte of the table's texts is 0 or above 255. Assumes nothing.
+-- A gain that is told as one number has the bytes of the addition: no byte of the table's texts is 0 or above 255.
 use Prim.Native.Nat.{ℕ, _+_, _-_, _*_, _/_, _%_, _<_}
 use mathlib.Core.Path.{_≡_, refl, sym, ap, _∙_}
 use mathlib.Core.Bool.{Bool, true, _&&_}
@@ -8,8 +8,8 @@ use native.Mathlib.Nat.{add-mul-mod-self-left, add-mul-div-left, mod-eq-of-lt, d
 use borrow.Author.Tests.{ne-eqb, lt-ltb, le-ltb, ltb-true}
 use lib.Dec.{ltb}
 use lib.ListN.{getD}
-use Rattle.windows.specs.Text.{bytes, upper}
-use Rattle.windows.proofs.Facts.{both}
+use Rattle.byte.specs.Text.{bytes, upper}
+use Rattle.basics.proofs.Tests.{both}
 use Rattle.rules.specs.Case.{Case, case, added}
 use Rattle.rules.specs.Kept.{bytesOf}
 use Rattle.rules.specs.Plain.{swallows, casesVowel, casesRest}
@@ -21,7 +21,8 @@ use Rattle.rules.specs.CasesS.{casesS}
 use Rattle.rules.specs.Table.{rows, casesIn, visit, spokenAt}
 use Rattle.rules.specs.declared.Edition.{Edition}
 use Rattle.rules.specs.declared.Visit.{Visit}
-use Rattle.rules.proofs.Each.{row-passes, every}
+use Rattle.basics.proofs.Every.{every}
+use Rattle.rules.proofs.Each.{row-passes}
 use Rattle.rules.proofs.Told.{spoken-visit}
 use Rattle.walk.specs.Walk.{joined, toPrimary, toAlternate}
 use Rattle.walk.specs.Word.{ruleOf}

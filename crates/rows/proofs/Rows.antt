@@ -1,5 +1,5 @@
 -- The rows of a word are the visits of its walk under the limit, each told by its case, and their gains, joined and clipped, are its
--- codes. Assumes nothing.
+-- codes.
 use Prim.Native.Nat.{ℕ, zero, suc, _+_, _-_, _≤_, _<_}
 use mathlib.Core.Path.{_≡_, refl, sym, ap, _∙_}
 use mathlib.Core.Bool.{Bool, true, false}
@@ -9,15 +9,17 @@ use borrow.Author.Tests.{ltb-true, ltb-false}
 use lib.Dec.{ltb}
 use lib.ListN.{length, getD, take, drop, take-append-drop, length-map, List·getD-map}
 use lib.Seq.{take-all, length-take-le, take-append-le, getD-take}
-use Rattle.windows.specs.Text.{upper}
+use Rattle.byte.specs.Text.{upper}
 use Rattle.rules.specs.declared.Edition.{Edition}
 use Rattle.rules.specs.declared.Visit.{Visit}
 use Rattle.walk.specs.Walk.{places, joined, toPrimary, toAlternate}
-use Rattle.walk.specs.Word.{startOf, ruleOf, visitsOf}
-use Rattle.encoder.specs.declared.Limit.{Limit}
-use Rattle.encoder.specs.declared.Limit.the-variants.{Whole, At}
-use Rattle.encoder.specs.Encode.{clip, primaryOf, alternateOf, visitsUnder}
-use Rattle.encoder.proofs.Demand3.{unlimited, limited}
+use Rattle.word.specs.Start.{startOf}
+use Rattle.walk.specs.Word.{ruleOf, visitsOf}
+use Rattle.terms.specs.declared.Limit.{Limit}
+use Rattle.terms.specs.declared.Limit.the-variants.{Whole, At}
+use Rattle.terms.specs.Limits.{clip}
+use Rattle.encoder.specs.Encode.{primaryOf, alternateOf, visitsUnder}
+use Rattle.demands.proofs.Demand3.{code-unlimited, code-limited}
 use Rattle.rows.specs.Listing.{Row, gained, modeOf, rowAt, placesUnder, listingOf}
 use Rattle.rows.specs.Right.{Right, RightRows}
 use Rattle.rows.proofs.Speaks.{says, spoken-text}
@@ -55,8 +57,8 @@ visits-few ed t = omega (arith, places-few (ruleOf ed t) (startOf t) 0 (length t
 
 -- no more are visited under a limit
 pub visits-within : (ed : Edition) (l : Limit) (t : List ℕ) → visitsUnder ed l t ≤ length (visitsOf ed t)
-visits-within ed Whole t = omega (arith, unlimited ed t .visits)
-visits-within ed (At n) t = limited ed n t .visits .within
+visits-within ed Whole t = omega (arith, code-unlimited ed t .visits)
+visits-within ed (At n) t = code-limited ed n t .visits .within
 
 -- ---- the rows
 places-told : (ed : Edition) (t ps : List ℕ) → map (λ (r : Row). r .place) (map (rowAt ed t) ps) ≡ ps
@@ -96,16 +98,16 @@ joined-enough g ps n k h = by (ltb k (length ps)) refl
 
 module _ (ed : Edition) (t : List ℕ) where
   primary-joined : (l : Limit) → clip l (joined (toPrimary (ruleOf ed t)) (placesUnder ed l t)) ≡ primaryOf ed l t
-  primary-joined Whole = ap (joined (toPrimary (ruleOf ed t))) (take-all (visitsUnder ed Whole t) (visitsOf ed t) (omega (arith, unlimited ed t .visits))) ∙ sym (unlimited ed t .primary)
+  primary-joined Whole = ap (joined (toPrimary (ruleOf ed t))) (take-all (visitsUnder ed Whole t) (visitsOf ed t) (omega (arith, code-unlimited ed t .visits))) ∙ sym (code-unlimited ed t .primary)
   primary-joined (At n) =
-      joined-enough (toPrimary (ruleOf ed t)) (visitsOf ed t) n (visitsUnder ed (At n) t) (λ h. limited ed n t .visits .full-or-all h .primary)
-      ∙ ap (λ (c : List ℕ). take n c) (sym (unlimited ed t .primary)) ∙ sym (limited ed n t .primary)
+      joined-enough (toPrimary (ruleOf ed t)) (visitsOf ed t) n (visitsUnder ed (At n) t) (λ h. code-limited ed n t .visits .full-or-all h .primary)
+      ∙ ap (λ (c : List ℕ). take n c) (sym (code-unlimited ed t .primary)) ∙ sym (code-limited ed n t .primary)
 
   alternate-joined : (l : Limit) → clip l (joined (toAlternate (ruleOf ed t)) (placesUnder ed l t)) ≡ alternateOf ed l t
-  alternate-joined Whole = ap (joined (toAlternate (ruleOf ed t))) (take-all (visitsUnder ed Whole t) (visitsOf ed t) (omega (arith, unlimited ed t .visits))) ∙ sym (unlimited ed t .alternate)
+  alternate-joined Whole = ap (joined (toAlternate (ruleOf ed t))) (take-all (visitsUnder ed Whole t) (visitsOf ed t) (omega (arith, code-unlimited ed t .visits))) ∙ sym (code-unlimited ed t .alternate)
   alternate-joined (At n) =
-      joined-enough (toAlternate (ruleOf ed t)) (visitsOf ed t) n (visitsUnder ed (At n) t) (λ h. limited ed n t .visits .full-or-all h .alternate)
-      ∙ ap (λ (c : List ℕ). take n c) (sym (unlimited ed t .alternate)) ∙ sym (limited ed n t .alternate)
+      joined-enough (toAlternate (ruleOf ed t)) (visitsOf ed t) n (visitsUnder ed (At n) t) (λ h. code-limited ed n t .visits .full-or-all h .alternate)
+      ∙ ap (λ (c : List ℕ). take n c) (sym (code-unlimited ed t .alternate)) ∙ sym (code-limited ed n t .alternate)
 
   pub listing-many : (l : Limit) → length (listingOf ed l t) ≡ visitsUnder ed l t
   unfolding listingOf

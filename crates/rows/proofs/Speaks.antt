@@ -1,5 +1,5 @@
 -- Every visit is told by the case of its number, the first that holds, and a text's number is 0 or names a text that stands at its
--- window. Assumes nothing.
+-- window.
 use Prim.Native.Nat.{ℕ, zero, suc, _+_, _-_, _≤_, _<_}
 use Prim.Native.String.{String}
 use mathlib.Core.Path.{_≡_, refl, sym, ap, _∙_}
@@ -11,7 +11,7 @@ use borrow.Author.Tests.{eqb-false, leb-true}
 use lib.Dec.{eqb, leb}
 use lib.ListN.{length, getD, length-append, List·getD-append}
 use lib.Seq.{getD-append-add}
-use Rattle.windows.specs.Text.{bytes}
+use Rattle.byte.specs.Text.{bytes}
 use Rattle.windows.specs.Window.{isAt, textFrom, textAt}
 use Rattle.rules.specs.Cond.{Spot, ahead, back, front, rear, Cond, Mode, always, window, byte, vowel, place, past, below, left, long, slavo, edition2, non, _&_, _or_, at, holds}
 use Rattle.rules.specs.Case.{Case, case, gives}
@@ -25,8 +25,9 @@ use Rattle.rules.specs.CasesG.{casesG}
 use Rattle.rules.specs.CasesMZ.{casesM, casesP, casesR, casesT, casesW, casesX, casesZ}
 use Rattle.rules.specs.CasesS.{casesS}
 use Rattle.rules.specs.declared.Spoken.{Spoken}
-use Rattle.windows.proofs.Facts.{both}
-use Rattle.rules.proofs.Each.{row-passes, every}
+use Rattle.basics.proofs.Tests.{both}
+use Rattle.basics.proofs.Every.{every}
+use Rattle.rules.proofs.Each.{row-passes}
 
 abbrev pub other : Case
 other = case always "" "" 0

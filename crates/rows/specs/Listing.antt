@@ -6,15 +6,16 @@ use mathlib.Core.Bool.{cond}
 use mathlib.Core.List.{List, [], _∷_, _++_, map}
 use lib.Dec.{eqb, ltb}
 use lib.ListN.{getD, take}
-use Rattle.windows.specs.Text.{upper}
+use Rattle.byte.specs.Text.{upper}
 use Rattle.rules.specs.Cond.{Mode, mode, isSecond}
 use Rattle.rules.specs.Table.{spokenAt}
 use Rattle.rules.specs.declared.Edition.{Edition}
 use Rattle.rules.specs.declared.Add.{Add}
 use Rattle.rules.specs.declared.Add.the-variants.{Nothing, One, Two}
 use Rattle.rules.specs.declared.Spoken.{Spoken}
-use Rattle.walk.specs.Word.{slavoGermanic, visitsOf}
-use Rattle.encoder.specs.declared.Limit.{Limit}
+use Rattle.word.specs.Mark.{slavoGermanic}
+use Rattle.walk.specs.Word.{visitsOf}
+use Rattle.terms.specs.declared.Limit.{Limit}
 use Rattle.encoder.specs.Encode.{visitsUnder}
 
 pub record Row : Type 0 where

@@ -4,12 +4,13 @@ use mathlib.Core.List.{List, [], _∷_, _++_, map}
 use mathlib.Core.Logic.{_⊎_}
 use mathlib.Core.Path.{_≡_}
 use lib.ListN.{length, getD}
-use Rattle.windows.specs.Text.{upper}
+use Rattle.byte.specs.Text.{upper}
 use Rattle.rules.specs.Case.{gives}
 use Rattle.rules.specs.Table.{rows, casesIn}
 use Rattle.rules.specs.declared.Edition.{Edition}
-use Rattle.encoder.specs.declared.Limit.{Limit}
-use Rattle.encoder.specs.Encode.{clip, primaryOf, alternateOf, visitsUnder}
+use Rattle.terms.specs.declared.Limit.{Limit}
+use Rattle.terms.specs.Limits.{clip}
+use Rattle.encoder.specs.Encode.{primaryOf, alternateOf, visitsUnder}
 use Rattle.rows.specs.Listing.{Row, gained, bytesGained, modeOf, rowAt, placesUnder}
 use Rattle.rows.specs.Speaks.{theCase, Speaks, windowsOf, Named}
 

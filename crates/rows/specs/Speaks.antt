@@ -7,7 +7,7 @@ use mathlib.Core.Bool.{true, false}
 use mathlib.Core.List.{List, [], _∷_, _++_}
 use mathlib.Core.Path.{_≡_}
 use lib.ListN.{length, getD}
-use Rattle.windows.specs.Text.{bytes}
+use Rattle.byte.specs.Text.{bytes}
 use Rattle.windows.specs.Window.{isAt}
 use Rattle.rules.specs.Cond.{Spot, front, Cond, Mode, always, window, byte, vowel, place, past, below, left, long, slavo, edition2, non, _&_, _or_, at, holds}
 use Rattle.rules.specs.Case.{Case, case, gives}

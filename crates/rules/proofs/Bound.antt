@@ -1,5 +1,5 @@
 -- No text of the table has more than two bytes, so an addition is its text whole, and no case passes over more than three
--- bytes. Assumes nothing.
+-- bytes.
 use Prim.Native.Nat.{ℕ, _≤_}
 use mathlib.Core.Bool.{Bool, true, false, cond, _&&_}
 use mathlib.Core.List.{List, [], _∷_}
@@ -8,8 +8,8 @@ use native.Mathlib.Omega.{arith}
 use borrow.Author.Tests.{leb-true}
 use lib.Dec.{leb}
 use lib.ListN.{getD, length}
-use Rattle.windows.specs.Text.{bytes}
-use Rattle.windows.proofs.Facts.{both}
+use Rattle.byte.specs.Text.{bytes}
+use Rattle.basics.proofs.Tests.{both}
 use Rattle.rules.specs.Cond.{Mode, holds}
 use Rattle.rules.specs.Case.{Case, added, gives, first}
 use Rattle.rules.specs.Plain.{swallows, casesVowel, casesRest}
@@ -23,7 +23,8 @@ use Rattle.rules.specs.Kept.{bytesOf, Short}
 use Rattle.rules.specs.declared.Add.{Add}
 use Rattle.rules.specs.declared.Add.the-variants.{Nothing, One, Two}
 use Rattle.rules.specs.declared.Visit.{Visit}
-use Rattle.rules.proofs.Each.{row-passes, every}
+use Rattle.basics.proofs.Every.{every}
+use Rattle.rules.proofs.Each.{row-passes}
 
 -- a text of at most two bytes is added whole
 pub added-whole : (s : List ℕ) → length s ≤ 2 → bytesOf (added s) ≡ s

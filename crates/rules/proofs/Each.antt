@@ -1,12 +1,12 @@
 -- Facts about every visit, proved from the table: a test that antt computes over all cases, and one law that carries it to the
--- case that speaks. Assumes nothing.
+-- case that speaks.
 use Prim.Native.Nat.{ℕ}
 use mathlib.Core.Bool.{Bool, true, false, cond, _&&_}
 use mathlib.Core.List.{List, [], _∷_}
 use mathlib.Core.Path.{_≡_}
-use Rattle.windows.specs.Text.{bytes}
-use Rattle.windows.specs.Window.{among}
-use Rattle.windows.proofs.Facts.{both}
+use Rattle.byte.specs.Text.{bytes}
+use Rattle.byte.specs.Vowel.{among}
+use Rattle.basics.proofs.Tests.{both}
 use Rattle.rules.specs.Case.{Case}
 use Rattle.rules.specs.Plain.{casesRest}
 use Rattle.rules.specs.Table.{Row, casesIn}
@@ -27,8 +27,3 @@ row-passes f [] b e = e
 row-passes f (r ∷ rs) b e =
     let h = both (f (r .cases)) (everyRow f rs) e in
     in-row f (among (bytes (r .keys)) b) (r .cases) (casesIn rs b) (h .0) (row-passes f rs b (h .1))
-
--- the test of a case passes at each case of a list
-abbrev pub every : (Case → Bool) → List Case → Bool
-every f [] = true
-every f (c ∷ cs) = f c && every f cs

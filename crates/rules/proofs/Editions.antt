@@ -1,14 +1,16 @@
 -- Where the editions agree: a word that does not begin with VAN or VON and a space has the same visits in both. One case asks for the
--- edition, the fourth of C. Assumes nothing.
+-- edition, the fourth of C.
 use Prim.Native.Nat.{ℕ}
 use mathlib.Core.Bool.{Bool, true, false, false≢true, cond, _&&_, _||_}
 use mathlib.Core.List.{List, [], _∷_, map}
 use mathlib.Core.Path.{_≡_, refl, sym, ap, ap₂, _∙_}
 use native.Mathlib.Omega.{arith}
 use lib.ListN.{getD, drop}
-use Rattle.windows.specs.Text.{bytes, upper}
-use Rattle.windows.specs.Window.{sees, among}
-use Rattle.windows.proofs.Facts.{both, window-other}
+use Rattle.byte.specs.Text.{bytes, upper}
+use Rattle.windows.specs.Window.{sees}
+use Rattle.byte.specs.Vowel.{among}
+use Rattle.basics.proofs.Tests.{both}
+use Rattle.windows.proofs.Facts.{window-other}
 use Rattle.rules.specs.Cond.{Mode, mode, window, past, _&_, _or_, ahead, back, front, holds}
 use Rattle.rules.specs.Case.{Case, gives, first}
 use Rattle.rules.specs.Plain.{swallows, casesVowel, casesRest}

@@ -1,13 +1,16 @@
 -- Single visits, computed from the table and compared with what the unchanged Rust's visits add and pass over; and the number of
--- cases, letter by letter. Assumes nothing.
+-- cases, letter by letter.
 use Prim.Native.Nat.{ℕ, _+_}
 use Prim.Native.String.{String}
 use mathlib.Core.Bool.{Bool, true, false}
 use mathlib.Core.List.{List, [], _∷_, map}
 use mathlib.Core.Path.{_≡_, refl}
 use lib.ListN.{length}
-use Rattle.windows.specs.Text.{bytes, up, upper, same}
-use Rattle.windows.specs.Window.{isAt, sees, byteAt, vowel, vowelAt, endsAfter, isLong}
+use Rattle.byte.specs.Text.{bytes, up, upper}
+use Rattle.basics.specs.Same.{same}
+use Rattle.windows.specs.Window.{isAt, sees}
+use Rattle.spots.specs.Spot.{byteAt, vowelAt, endsAfter, isLong}
+use Rattle.byte.specs.Vowel.{vowel}
 use Rattle.rules.specs.Cond.{marked, edited, holds}
 use Rattle.rules.specs.Case.{adds, first}
 use Rattle.rules.specs.Plain.{swallows, casesVowel, casesRest}

@@ -1,6 +1,6 @@
 -- At place 0 a second byte is added only where a byte that stands in the word is passed over: a test that antt computes over the
 -- table, and the law that carries it to each visit at place 0. The test goes down a list of cases: a case is passed by where it
--- never holds at place 0, or where an earlier one holds with it; it ends at a case that always holds there. Assumes nothing.
+-- never holds at place 0, or where an earlier one holds with it; it ends at a case that always holds there.
 use Prim.Native.Char.{code}
 use Prim.Native.Nat.{ℕ, zero, suc, _+_, _-_, _≤_, min, max}
 use mathlib.Core.Bool.{Bool, true, false, false≢true, cond, not, _&&_, _||_, and-false, or-true}
@@ -12,9 +12,14 @@ use borrow.Author.Tests.{leb-true, ltb-true, eqb-true, eq-eqb, ne-eqb, lt-ltb, l
 use lib.Dec.{leb, ltb, eqb}
 use lib.ListN.{length, getD, drop}
 use lib.Seq.{getD-take, getD-drop}
-use Rattle.windows.specs.Text.{bytes, same}
-use Rattle.windows.specs.Window.{isAt, sees, byteAt, vowelAt}
-use Rattle.windows.proofs.Facts.{both, either, same-true, isAt-true}
+use Rattle.basics.proofs.Every.{every}
+use Rattle.byte.specs.Text.{bytes}
+use Rattle.basics.specs.Same.{same}
+use Rattle.windows.specs.Window.{isAt, sees}
+use Rattle.spots.specs.Spot.{byteAt, vowelAt}
+use Rattle.basics.proofs.Tests.{both, either}
+use Rattle.basics.proofs.Same.{same-true}
+use Rattle.windows.proofs.Facts.{isAt-true}
 use Rattle.rules.specs.Cond.{Spot, ahead, back, front, rear, Cond, Mode, always, window, byte, vowel, place, past, below, left, long, slavo, edition2, non, _&_, _or_, at, holds}
 use Rattle.rules.specs.Case.{Case, added, gives, first}
 use Rattle.rules.specs.Plain.{swallows, casesVowel, casesRest}
@@ -34,30 +39,30 @@ before (back k) = ltb 0 k
 before (front k) = false
 before (rear k) = false
 
-abbrev settled : Bool → Cond → Bool
-settled true always = true
-settled false always = false
-settled true (window s n ts) = false
-settled false (window s n ts) = before s
-settled true (byte s b) = false
-settled false (byte s b) = before s
-settled true (vowel s) = false
-settled false (vowel s) = before s
-settled true (place k) = eqb k 0
-settled false (place k) = ltb 0 k
-settled true (past k) = false
-settled false (past k) = true
-settled true (below k) = ltb 0 k
-settled false (below k) = false
-settled b (left k) = false
-settled b (long n) = false
-settled b slavo = false
-settled b edition2 = false
-settled b (non c) = settled (not b) c
-settled true (c & d) = settled true c && settled true d
-settled false (c & d) = settled false c || settled false d
-settled true (c or d) = settled true c || settled true d
-settled false (c or d) = settled false c && settled false d
+abbrev surely : Bool → Cond → Bool
+surely true always = true
+surely false always = false
+surely true (window s n ts) = false
+surely false (window s n ts) = before s
+surely true (byte s b) = false
+surely false (byte s b) = before s
+surely true (vowel s) = false
+surely false (vowel s) = before s
+surely true (place k) = eqb k 0
+surely false (place k) = ltb 0 k
+surely true (past k) = false
+surely false (past k) = true
+surely true (below k) = ltb 0 k
+surely false (below k) = false
+surely b (left k) = false
+surely b (long n) = false
+surely b slavo = false
+surely b edition2 = false
+surely b (non c) = surely (not b) c
+surely true (c & d) = surely true c && surely true d
+surely false (c & d) = surely false c || surely false d
+surely true (c or d) = surely true c || surely true d
+surely false (c or d) = surely false c && surely false d
 
 before-none : (s : Spot) → before s ≡ true → (u : List ℕ) (f : ℕ → Bool) → at s u 0 f ≡ false
 before-none (ahead k) e u f = absurd (false≢true e)
@@ -70,7 +75,7 @@ not-not true c e = ap not e
 not-not false c e = ap not e
 
 module _ (u : List ℕ) (m : Mode) where
-  settled-holds : (b : Bool) (c : Cond) → settled b c ≡ true → holds c u 0 m ≡ b
+  settled-holds : (b : Bool) (c : Cond) → surely b c ≡ true → holds c u 0 m ≡ b
   unfolding holds
   settled-holds true always e = refl
   settled-holds false always e = absurd (false≢true e)
@@ -92,13 +97,13 @@ module _ (u : List ℕ) (m : Mode) where
   settled-holds b edition2 e = absurd (false≢true e)
   settled-holds b (non c) e = not-not b (holds c u 0 m) (settled-holds (not b) c e)
   settled-holds true (c & d) e =
-      let h = both (settled true c) (settled true d) e in simp (settled-holds true c (h .0), settled-holds true d (h .1))
+      let h = both (surely true c) (surely true d) e in simp (settled-holds true c (h .0), settled-holds true d (h .1))
   settled-holds false (c & d) e =
-      either (settled false c) (settled false d) e _ (λ f. simp (settled-holds false c f)) (λ f. simp (settled-holds false d f, and-false))
+      either (surely false c) (surely false d) e _ (λ f. simp (settled-holds false c f)) (λ f. simp (settled-holds false d f, and-false))
   settled-holds true (c or d) e =
-      either (settled true c) (settled true d) e _ (λ f. simp (settled-holds true c f)) (λ f. simp (settled-holds true d f, or-true))
+      either (surely true c) (surely true d) e _ (λ f. simp (settled-holds true c f)) (λ f. simp (settled-holds true d f, or-true))
   settled-holds false (c or d) e =
-      let h = both (settled false c) (settled false d) e in simp (settled-holds false c (h .0), settled-holds false d (h .1))
+      let h = both (surely false c) (surely false d) e in simp (settled-holds false c (h .0), settled-holds false d (h .1))
 
 -- ---- how long a word must be for a condition to hold at place 0
 abbrev reach : Spot → ℕ → ℕ
@@ -165,15 +170,10 @@ module _ (u : List ℕ) (m : Mode) where
       either (holds c u 0 m) (holds d u 0 m) e _ (λ f. omega (arith, least-long c f)) (λ f. omega (arith, least-long d f))
 
 -- ---- a condition that holds at place 0 only where another does
--- every text passes
-abbrev all : (List ℕ → Bool) → List (List ℕ) → Bool
-all f [] = true
-all f (t ∷ ts) = f t && all f ts
-
 -- where the condition holds, a window at `k` is a text that passes, its width with it
 abbrev shows : Cond → ℕ → (ℕ → List ℕ → Bool) → Bool
 shows always k f = false
-shows (window (ahead j) n ts) k f = eqb j k && all (f n) (map bytes ts)
+shows (window (ahead j) n ts) k f = eqb j k && every (f n) (map bytes ts)
 shows (window (back j) n ts) k f = false
 shows (window (front j) n ts) k f = false
 shows (window (rear j) n ts) k f = false
@@ -188,7 +188,7 @@ shows slavo k f = false
 shows edition2 k f = false
 shows (non c) k f = false
 shows (c & d) k f = shows c k f || shows d k f
-shows (c or d) k f = (settled false c || shows c k f) && (settled false d || shows d k f)
+shows (c or d) k f = (surely false c || shows c k f) && (surely false d || shows d k f)
 
 abbrev oneOf : List (List ℕ) → List ℕ → Bool
 oneOf [] t = false
@@ -228,26 +228,26 @@ pub record Shown (u : List ℕ) (k : ℕ) (f : ℕ → List ℕ → Bool) : Type
   pub passes : f width text ≡ true
 
 module _ (u : List ℕ) (k : ℕ) (f : ℕ → List ℕ → Bool) where
-  shown-text : (n : ℕ) (ts : List (List ℕ)) → all (f n) ts ≡ true → sees u k n ts ≡ true → Shown u k f
+  shown-text : (n : ℕ) (ts : List (List ℕ)) → every (f n) ts ≡ true → sees u k n ts ≡ true → Shown u k f
   unfolding sees
   shown-text n [] a e = absurd (false≢true e)
   shown-text n (t ∷ ts) a e =
-      let h = both (f n t) (all (f n) ts) a in
+      let h = both (f n t) (every (f n) ts) a in
       either (isAt u k n t) (sees u k n ts) e _
       (λ i. record { width = n; text = t; there = i; passes = h .0 })
       (λ i. shown-text n ts (h .1) i)
 
   module _ (m : Mode) where
     shown-or : (c : Cond) → (shows c k f ≡ true → holds c u 0 m ≡ true → Shown u k f)
-        → (settled false c || shows c k f) ≡ true → holds c u 0 m ≡ true → Shown u k f
+        → (surely false c || shows c k f) ≡ true → holds c u 0 m ≡ true → Shown u k f
     shown-or c ih a e =
-        either (settled false c) (shows c k f) a _ (λ n. absurd (false≢true (sym (settled-holds u m false c n) ∙ e))) (λ s. ih s e)
+        either (surely false c) (shows c k f) a _ (λ n. absurd (false≢true (sym (settled-holds u m false c n) ∙ e))) (λ s. ih s e)
 
     shown : (c : Cond) → shows c k f ≡ true → holds c u 0 m ≡ true → Shown u k f
     unfolding holds
     shown always a e = absurd (false≢true a)
     shown (window (ahead j) n ts) a e =
-        let h = both (eqb j k) (all (f n) (map bytes ts)) a in
+        let h = both (eqb j k) (every (f n) (map bytes ts)) a in
         shown-text n (map bytes ts) (h .1) (rw (zero-add, eqb-true j k (h .0)) at e)
     shown (window (back j) n ts) a e = absurd (false≢true a)
     shown (window (front j) n ts) a e = absurd (false≢true a)
@@ -266,7 +266,7 @@ module _ (u : List ℕ) (k : ℕ) (f : ℕ → List ℕ → Bool) where
         let h = both (holds c u 0 m) (holds d u 0 m) e in
         either (shows c k f) (shows d k f) a _ (λ s. shown c s (h .0)) (λ s. shown d s (h .1))
     shown (c or d) a e =
-        let h = both (settled false c || shows c k f) (settled false d || shows d k f) a in
+        let h = both (surely false c || shows c k f) (surely false d || shows d k f) a in
         either (holds c u 0 m) (holds d u 0 m) e _
         (λ i. shown-or c (shown c) (h .0) i)
         (λ i. shown-or d (shown d) (h .1) i)
@@ -335,8 +335,8 @@ fits c =
 abbrev opens : List Cond → List Case → Bool
 opens ds [] = true
 opens ds (c ∷ cs) =
-    (settled false (c .when) || (anyForced (c .when) ds || fits c))
-    && (settled true (c .when) || opens (c .when ∷ ds) cs)
+    (surely false (c .when) || (anyForced (c .when) ds || fits c))
+    && (surely true (c .when) || opens (c .when ∷ ds) cs)
 
 -- none of the conditions holds at place 0
 abbrev Fail : List ℕ → Mode → List Cond → Type 0
@@ -368,17 +368,17 @@ module _ (u : List ℕ) (m : Mode) where
   unfolding first
   first-front ds [] n a = record { primary = omega arith; alternate = omega arith }
   first-front ds (c ∷ cs) n a =
-      let h = both (settled false (c .when) || (anyForced (c .when) ds || fits c)) _ a in
+      let h = both (surely false (c .when) || (anyForced (c .when) ds || fits c)) _ a in
       chosen (AtFront (length u)) (holds (c .when) u 0 m)
       (λ e.
-      either (settled false (c .when)) _ (h .0) _
+      either (surely false (c .when)) _ (h .0) _
       (λ f. absurd (false≢true (sym (settled-holds u m false (c .when) f) ∙ e)))
       (λ g.
       either (anyForced (c .when) ds) (fits c) g _
       (λ f. absurd (none-forced (c .when) ds n f e))
       (λ f. fits-front c f e)))
       (λ e.
-      either (settled true (c .when)) _ (h .1) _
+      either (surely true (c .when)) _ (h .1) _
       (λ f. absurd (false≢true (sym e ∙ settled-holds u m true (c .when) f)))
       (λ g. first-front (c .when ∷ ds) cs (e, n) g))
 

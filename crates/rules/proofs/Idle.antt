@@ -1,5 +1,5 @@
 -- Four tests that no word makes matter (specs/Idle.antt). Of each: what the tests before it say of its answer; that its condition
--- is the same without it; and that the letter's cases then answer alike, at every place of every word. Assumes nothing.
+-- is the same without it; and that the letter's cases then answer alike, at every place of every word.
 use Prim.Native.Char.{code}
 use Prim.Native.Nat.{ℕ, _+_}
 use mathlib.Core.Bool.{Bool, true, false, cond, not, _&&_, _||_, and-false, or-true, or-false}
@@ -9,9 +9,11 @@ use native.Mathlib.Omega.{arith}
 use borrow.Author.Tests.{eqb-true}
 use lib.Dec.{ltb, eqb}
 use lib.ListN.{length, getD}
-use Rattle.windows.specs.Text.{bytes}
-use Rattle.windows.specs.Window.{isAt, sees, byteAt}
-use Rattle.windows.proofs.Facts.{both, neither, isAt-begins}
+use Rattle.byte.specs.Text.{bytes}
+use Rattle.windows.specs.Window.{isAt, sees}
+use Rattle.spots.specs.Spot.{byteAt}
+use Rattle.basics.proofs.Tests.{both, neither}
+use Rattle.windows.proofs.Facts.{isAt-begins}
 use Rattle.rules.specs.Cond.{Cond, Mode, window, vowel, place, below, slavo, non, _&_, _or_, ahead, back, holds}
 use Rattle.rules.specs.Case.{Case, case, gives, first}
 use Rattle.rules.specs.Plain.{next}

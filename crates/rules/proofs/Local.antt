@@ -1,5 +1,5 @@
 -- How far a rule can see (document 02, L8): a condition whose windows lie near the place, or at the word's ends, cannot tell two
--- words apart that agree there. That every case's condition is such a one is a test that antt computes. Assumes nothing.
+-- words apart that agree there. That every case's condition is such a one is a test that antt computes.
 use Prim.Native.Char.{code}
 use Prim.Native.Nat.{ℕ, _+_, _-_, _≤_, _<_}
 use mathlib.Core.Bool.{Bool, true, false, false≢true, cond, not, _&&_, _||_, and-false}
@@ -10,9 +10,12 @@ use borrow.Author.Tests.{leb-true, eqb-true, ne-eqb}
 use lib.Dec.{leb, ltb, eqb}
 use lib.ListN.{length, getD, take, drop, length-take, length-drop}
 use lib.Seq.{ext-getD, getD-take, getD-drop}
-use Rattle.windows.specs.Text.{bytes, same}
-use Rattle.windows.specs.Window.{isAt, sees, byteAt, vowel, vowelAt, endsAfter, isLong}
-use Rattle.windows.proofs.Facts.{both, either}
+use Rattle.byte.specs.Text.{bytes}
+use Rattle.basics.specs.Same.{same}
+use Rattle.windows.specs.Window.{isAt, sees}
+use Rattle.spots.specs.Spot.{byteAt, vowelAt, endsAfter, isLong}
+use Rattle.byte.specs.Vowel.{vowel}
+use Rattle.basics.proofs.Tests.{both, either}
 use Rattle.rules.specs.Agree.{Agree}
 use Rattle.rules.specs.Cond.{Spot, ahead, back, front, rear, Cond, Mode, always, window, byte, vowel as vowelThere, place, past, below, left, long, slavo, edition2, non, _&_, _or_, at, holds}
 use Rattle.rules.specs.Case.{Case, gives, first}
@@ -24,7 +27,8 @@ use Rattle.rules.specs.CasesMZ.{casesM, casesP, casesR, casesT, casesW, 
 use Rattle.rules.specs.CasesS.{casesS}
 use Rattle.rules.specs.Table.{rows, casesIn, visit}
 use Rattle.rules.specs.declared.Visit.{Visit}
-use Rattle.rules.proofs.Each.{row-passes, every}
+use Rattle.basics.proofs.Every.{every}
+use Rattle.rules.proofs.Each.{row-passes}
 
 -- ---- the test
 -- `n` bytes at the spot lie where the two words agree

@@ -4,7 +4,7 @@ use Prim.Native.Nat.{ℕ}
 use Prim.Native.String.{String}
 use mathlib.Core.Bool.{cond}
 use mathlib.Core.List.{List, [], _∷_}
-use Rattle.windows.specs.Text.{bytes}
+use Rattle.byte.specs.Text.{bytes}
 use Rattle.rules.specs.Cond.{Cond, Mode, holds}
 use Rattle.rules.specs.declared.Add.{Add}
 use Rattle.rules.specs.declared.Add.the-variants.{Nothing, One, Two}

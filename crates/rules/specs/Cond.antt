@@ -7,8 +7,9 @@ use Prim.Native.String.{String}
 use mathlib.Core.Bool.{Bool, true, false, not, _&&_, _||_}
 use mathlib.Core.List.{List, map}
 use lib.Dec.{eqb, ltb}
-use Rattle.windows.specs.Text.{bytes}
-use Rattle.windows.specs.Window.{sees, byteAt, vowelAt, stepBack, fromRear, endsAfter, isLong}
+use Rattle.byte.specs.Text.{bytes}
+use Rattle.windows.specs.Window.{sees}
+use Rattle.spots.specs.Spot.{byteAt, vowelAt, stepBack, fromRear, endsAfter, isLong}
 use Rattle.rules.specs.declared.Edition.{Edition}
 use Rattle.rules.specs.declared.Edition.the-variants.{E1, E2}
 

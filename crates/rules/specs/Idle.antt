@@ -1,7 +1,7 @@
 -- Tests of the Rust that no word makes matter (document 02, L2): where each is asked, the tests before it have settled its answer.
 -- The definition keeps them in the Rust's places, and the code is without them. Here stand their conditions without the test, and
 -- what it is that a test does not matter; proofs/Idle.antt shows it of each, at every place of every word. The fifth such test,
--- WITZ in the mark, is in crates/walk (specs/Word.antt, proofs/Word.antt).
+-- WITZ in the mark, is in crates/word (specs/Mark.antt, proofs/Mark.antt).
 use Prim.Native.Nat.{ℕ, zero, suc}
 use mathlib.Core.List.{List, [], _∷_}
 use mathlib.Core.Path.{_≡_}

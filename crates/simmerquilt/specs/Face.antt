@@ -1,19 +1,8 @@
 -- The C face: a host's numbers as a choice, a cursor and an end. What the answers are is the encoder's, the equality
--- question's, the book's, the writer's and the join's own definition; their numbers are those of crates/answers.
+-- question's, the book's, the writer's and the join's own definition; their numbers are those of crates/telling_keys and crates/telling_books.
 use Prim.Native.Nat.{ℕ}
-use mathlib.Core.Bool.{Bool, true, false}
-use Rattle.encoder.specs.declared.Choice.{Choice}
-use Rattle.encoder.specs.declared.Choice.the-variants.{Primary, Alternate}
-use Rattle.book.specs.declared.Header.{Header}
-use Rattle.book.specs.declared.Cursor.{Cursor}
-use Rattle.writer.specs.declared.End.{End}
-
-abbrev pub choiceOf : Bool → Choice
-choiceOf true = Alternate
-choiceOf false = Primary
-
-abbrev pub cursorOf : ℕ → ℕ → Cursor
-cursorOf place floor = record { at = place; floor = floor }
+use Rattle.header.specs.declared.Header.{Header}
+use Rattle.book.specs.declared.End.{End}
 
 abbrev pub headerFrom : ℕ → ℕ → ℕ → Header
 headerFrom format edition cut = record { format = format; edition = edition; cut = cut }

@@ -1,28 +1,73 @@
-// The C face: the encoder, the equality question, the station key book (books.rt) and the join (joins.rt) for hosts, on numbers and
-// slices of numbers only. A slice is a pointer and a length; answers go to arrays that the caller lends, and one number is returned.
-mod books;
-mod joins;
-
-use answers::limit_of;
-use encoder::Choice;
+// The C face of all that encodes: the encoder, the equality question, and records added to a station key book; for hosts, on numbers and
+// slices of numbers only. A slice is a pointer and a length; answers go to arrays that the caller lends.
+use asking::limit_of;
+use book::End;
 use encoder::Encoder;
+use header::Header;
 ghost use mathlib.Core.Path.{_≡_};
 ghost use lib.ListN.{length};
 ghost use Rattle.rules.specs.declared.Edition.the-variants.{E1};
 ghost use Rattle.encoder.specs.Encode.{answerOf, Encoded};
-ghost use Rattle.encoder.specs.Editions.{replyOf, EncodedIn};
+ghost use Rattle.editions.specs.Editions.{replyOf, EncodedIn};
 ghost use Rattle.equality.specs.Equality.{verdictOf};
-ghost use Rattle.answers.specs.Numbers.{limitOf, answerNumbers, replyNumbers, verdictNumbers};
-ghost use Rattle.simmerquilt.specs.Face.{choiceOf};
+ghost use Rattle.book.specs.Room.{readIn};
+ghost use Rattle.putting.specs.Laid.{left};
+ghost use Rattle.keying.specs.Keyed.{newBytes};
+ghost use Rattle.appending.specs.Ended.{behind, placedAt};
+ghost use Rattle.adding.specs.Adding.{addedBy, leftBy};
+ghost use Rattle.asking.specs.Asked.{limitOf, choiceOf};
+ghost use Rattle.telling_keys.specs.Numbers.{answerNumbers, replyNumbers, verdictNumbers};
+ghost use Rattle.telling_books.specs.Numbers.{madeNumbers, endedNumbers};
+ghost use Rattle.simmerquilt.specs.Face.{endFrom, headerFrom};
 
-fn choice_of(alternate: bool) -> Choice
-    ensures { λ r. ⌜ r ≡ choiceOf alternate ⌝ }
+// Adds a record to the book in the first `length` bytes of the room, which is closed up where it must be; `out` is number and new length.
+#[no_mangle]
+pub extern "C" fn simmerquilt_book_add(
+    room: &mut [u8],
+    length: u64,
+    station: u64,
+    name: &[u8],
+    out: &mut [u64; 2],
+)
+    ensures told { λ _. ⌜ now (out .exit) ≡ madeNumbers (addedBy (now (room .entry)) «length» station (now (name .entry)) (readIn (now (room .entry)) «length»)) ⌝ }
+    ensures room { λ _. ⌜ now (room .exit) ≡ leftBy (now (room .entry)) «length» station (now (name .entry)) (readIn (now (room .entry)) «length») ⌝ }
 {
-    if alternate {
-        Choice::Alternate
-    } else {
-        Choice::Primary
-    }
+    let made = adding::add(room, length as usize, station, name);
+    telling_books::tell_made(made, out);
+}
+
+// Adds a record behind a known good end; `out` is number, new length and new floor.
+#[no_mangle]
+pub extern "C" fn simmerquilt_book_append(
+    room: &mut [u8],
+    format: u32,
+    edition: u32,
+    cut: u32,
+    length: u64,
+    floor: u32,
+    station: u64,
+    name: &[u8],
+    out: &mut [u64; 3],
+)
+    ensures told { λ _. ⌜ now (out .exit) ≡ endedNumbers (behind (endFrom format edition cut «length» floor) station (placedAt (now (room .entry)) (endFrom format edition cut «length» floor) station (now (name .entry)))) ⌝ }
+    ensures room { λ _. ⌜ now (room .exit) ≡ left (placedAt (now (room .entry)) (endFrom format edition cut «length» floor) station (now (name .entry))) (now (room .entry)) «length» (newBytes (headerFrom format edition cut) station (now (name .entry))) ⌝ }
+{
+    let header = Header {
+        format,
+        edition,
+        cut,
+    };
+    let ended = appending::append(
+        room,
+        End {
+            header,
+            len: length as usize,
+            floor,
+        },
+        station,
+        name,
+    );
+    telling_books::tell_ended(ended, out);
 }
 
 // The codes of a word under edition 1, each at the front of its buffer; `out` is number, place, primary length, alternate length, visits.
@@ -39,7 +84,7 @@ pub extern "C" fn simmerquilt_encode(
     ensures buffers { λ _. ⌜ Encoded E1 (limitOf limited limit) (now (word .entry)) (now (primary .entry)) (now (alternate .entry)) (answerOf E1 (limitOf limited limit) (now (word .entry)) (length (now (primary .entry))) (length (now (alternate .entry)))) (now (primary .exit)) (now (alternate .exit)) ⌝ }
 {
     let answer = Encoder::new(limit_of(limited, limit)).encode(word, primary, alternate);
-    answers::tell_answer(answer, out);
+    telling_keys::tell_answer(answer, out);
 }
 
 // The same under the edition of this number; the number is 7 for an edition that is not known.
@@ -56,8 +101,8 @@ pub extern "C" fn simmerquilt_encode_in(
     ensures told { λ _. ⌜ now (out .exit) ≡ replyNumbers (replyOf edition (limitOf limited limit) (now (word .entry)) (length (now (primary .entry))) (length (now (alternate .entry)))) ⌝ }
     ensures buffers { λ _. ⌜ EncodedIn edition (limitOf limited limit) (now (word .entry)) (now (primary .entry)) (now (alternate .entry)) (replyOf edition (limitOf limited limit) (now (word .entry)) (length (now (primary .entry))) (length (now (alternate .entry)))) (now (primary .exit)) (now (alternate .exit)) ⌝ }
 {
-    let reply = encoder::encode_in(edition, limit_of(limited, limit), word, primary, alternate);
-    answers::tell_reply(reply, out);
+    let reply = editions::encode_in(edition, limit_of(limited, limit), word, primary, alternate);
+    telling_keys::tell_reply(reply, out);
 }
 
 // Whether two words have equal codes under edition 1; `out` is number, which word (0 unless refused), place, and 1 for equal.
@@ -74,9 +119,9 @@ pub extern "C" fn simmerquilt_equal(
 {
     let verdict = equality::equal(
         limit_of(limited, limit),
-        choice_of(alternate),
+        asking::choice_of(alternate),
         first,
         second,
     );
-    answers::tell_verdict(verdict, out);
+    telling_keys::tell_verdict(verdict, out);
 }

@@ -1,17 +1,15 @@
 // Prints a station key book that stands on standard input: a line for its header, one for each record, and one for how many there are. A closed
 // record's line ends with the word, and the last line tells how many are closed.
 // A fault ends the print, and its number, behind `!`, begins the last line.
-use book::Cursor;
-use book::Header;
-use book::Opened;
-use book::Step;
-use fields::Span;
+use entry::Step;
+use header::Cursor;
+use header::Header;
+use header::Opened;
 use libc::STDERR_FILENO;
 use libc::STDIN_FILENO;
 use libc::STDOUT_FILENO;
-ghost use mathlib.Core.Path.{_≡_};
+use slices::Span;
 ghost use Prim.Native.Nat.{_≤_};
-ghost use lib.ListN.{length};
 
 // Each of these answers whether all was written. The first write that fails ends the print, and `main` tells of it.
 fn put(bytes: &[u8]) -> bool {
@@ -58,11 +56,11 @@ fn put_record(
 ) -> bool {
     put_number(station as u64)
         && put(b"\t")
-        && put(fields::bytes_of(s, name))
+        && put(slices::bytes_of(s, name))
         && put(b"\t")
-        && put(fields::bytes_of(s, primary))
+        && put(slices::bytes_of(s, primary))
         && put(b"\t")
-        && put(fields::bytes_of(s, alternate))
+        && put(slices::bytes_of(s, alternate))
         && put_kind(kind)
 }
 
@@ -131,24 +129,16 @@ fn put_records(s: &[u8], header: Header, first: Cursor) -> bool {
 }
 
 fn put_book(s: &[u8]) -> bool {
-    let opened = book::open(s, 1);
+    let opened = header::open(s, 1);
     match opened {
         Opened::Book { header, first } => put_header(header) && put_records(s, header, first),
         Opened::Fault(f) => put_fault(f) && put(b" in the header\n"),
     }
 }
 
-// A mebibyte of zeros, for the whole book. A function makes it, whose contract gives the length alone: the checker would write a local
-// of this length out.
-fn room() -> [u8; 1048576]
-    ensures { λ r. ⌜ 1048576 ≡ length r ⌝ }
-{
-    [0; 1048576]
-}
-
 // The first read ends at a full room, at the end or at a read that fails; one byte more tells which it was.
 fn main() {
-    let mut text = room();
+    let mut text = rooms::mebibyte();
     let mut behind = [0u8; 1];
     let n = io::read_full(STDIN_FILENO, &mut text);
     let more = libc::read(STDIN_FILENO, &mut behind);

@@ -1,23 +1,12 @@
 -- No public function's promise leaves a choice: for the same arguments, any two results that it admits are equal, and so are the
--- lent buffers at exit. Assumes nothing.
+-- lent buffers at exit.
 use mathlib.Core.Path.{_≡_, sym, _∙_}
 use borrow.Fn.Kinds.{Dens, resT, endedOf}
 use denote.Ref.{now}
 use denote.Triple.Clauses.{AtExit}
-use Rattle.windows.proofs.Choice.{OneResult}
-use Rattle.walk.proofs.mark.is_slavo_germanic.Kinds as is-slavo-germanic-kinds
-use Rattle.walk.proofs.mark.is_slavo_germanic.Reads as is-slavo-germanic
-use Rattle.walk.proofs.start_of.Kinds as start-of-kinds
-use Rattle.walk.proofs.start_of.Reads as start-of
 use Rattle.walk.proofs.walk.Kinds as walk-kinds
 use Rattle.walk.proofs.walk.Reads as walk
 use contract.Lifetimes.{Lfts}
-
-pub one-is-slavo-germanic : OneResult is-slavo-germanic-kinds.ps is-slavo-germanic-kinds.r is-slavo-germanic.Post
-one-is-slavo-germanic κs a x y s t p q = p ∙ sym q
-
-pub one-start-of : OneResult start-of-kinds.ps start-of-kinds.r start-of.Post
-one-start-of κs a x y s t p q = p ∙ sym q
 
 -- the word, the edition, the limit and the two buffers: the buffers at exit are the fourth and the fifth
 module _ (κs : Lfts 3) (a : Dens κs walk-kinds.ps) (x y : resT walk-kinds.r κs .Denot) (s t : AtExit (endedOf 3 walk-kinds.ps walk-kinds.r) κs) where

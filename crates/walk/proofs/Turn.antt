@@ -1,4 +1,4 @@
--- One turn of the walk's loop, in terms of the definitions. Assumes nothing.
+-- One turn of the walk's loop, in terms of the definitions.
 use Prim.Native.Nat.{ℕ, zero, suc, _+_, _-_, _≤_, _<_, max}
 use mathlib.Core.Path.{_≡_, refl, sym, ap, _∙_, subst}
 use mathlib.Core.List.{List, [], _∷_, _++_}
@@ -9,14 +9,15 @@ use borrow.Author.Tests.{leb-true, leb-false, eq-eqb, ne-eqb}
 use lib.Dec.{leb}
 use lib.ListN.{length, take, length-take}
 use lib.Seq.{sets}
-use Rattle.windows.proofs.Facts.{both}
+use Rattle.basics.proofs.Tests.{both}
 use Rattle.rules.specs.declared.Edition.{Edition}
 use Rattle.rules.specs.declared.Visit.{Visit}
 use Rattle.rules.specs.Kept.{bytesOf}
 use Rattle.tally.specs.declared.Tally.{Tally}
 use Rattle.tally.specs.Tally.{counted}
 use Rattle.walk.specs.Walk.{places, toPrimary, toAlternate, Coded, ended, after, limited, tallyOf, filled}
-use Rattle.walk.specs.Word.{ruleOf, visitsOf, startOf, limitedOf}
+use Rattle.walk.specs.Word.{ruleOf, visitsOf, limitedOf}
+use Rattle.word.specs.Start.{startOf}
 use Rattle.walk.proofs.Half.{Half, half-start, half-room, half-step, half-length, half-end}
 
 -- passing bytes over is starting behind them

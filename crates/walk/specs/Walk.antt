@@ -1,5 +1,5 @@
 -- The walk over a word (document 01, "Preparing the word"), for any rule `v` that says what the visit at a place adds and passes
--- over: the places visited, what they add, the walk with no limit and under one. `cut` and `fewest` in proofs/Limit.antt say how
+-- over: the places visited, what they add, the walk with no limit and under one. `cut` and `fewest` in crates/walk_laws/proofs/Limit.antt say how
 -- the two walks relate, for every rule.
 use Prim.Native.Nat.{ℕ, zero, suc, _-_, max}
 use mathlib.Core.List.{List, [], _∷_, _++_}

@@ -1,5 +1,3 @@
--- What the window tests mean.
---     Text     bytes, texts and letter case
---     Window   a window, a byte, a vowel at a place of a word
-pub mod Text
+-- What a window test means.
+--     Window   a window of a word and the texts it is compared with
 pub mod Window

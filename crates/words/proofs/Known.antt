@@ -1,11 +1,14 @@
 -- Document 01's names with known keys: one statement for each edition over the table of the definition's answers. Below it, the counts
--- that document 01's list of errors names, and the room that KXZ takes, of edition 1. Assumes nothing.
+-- that document 01's list of errors names, and the room that KXZ takes, of edition 1.
 use Prim.Native.Nat.{ℕ}
 use Prim.Native.String.{String}
 use mathlib.Core.Path.{_≡_, refl}
 use mathlib.Core.List.{List, [], _∷_, map}
-use Rattle.windows.specs.Text.{bytes, up, upper, same}
-use Rattle.windows.specs.Window.{isAt, sees, byteAt, vowel, vowelAt, endsAfter, isLong}
+use Rattle.byte.specs.Text.{bytes, up, upper}
+use Rattle.basics.specs.Same.{same}
+use Rattle.windows.specs.Window.{isAt, sees}
+use Rattle.spots.specs.Spot.{byteAt, vowelAt, endsAfter, isLong}
+use Rattle.byte.specs.Vowel.{vowel}
 use Rattle.rules.specs.Cond.{holds}
 use Rattle.rules.specs.Case.{first}
 use Rattle.rules.specs.Plain.{swallows, casesVowel, casesRest}
@@ -15,14 +18,16 @@ use Rattle.rules.specs.CasesG.{casesG}
 use Rattle.rules.specs.CasesMZ.{casesM, casesP, casesR, casesT, casesW, casesX, casesZ}
 use Rattle.rules.specs.CasesS.{casesS}
 use Rattle.rules.specs.Table.{rows, casesIn, visit}
-use Rattle.walk.specs.Word.{beginsOne, hasOne, slavoGermanic, startOf, visitsOf}
+use Rattle.word.specs.Mark.{beginsOne, hasOne, slavoGermanic}
+use Rattle.word.specs.Start.{startOf}
+use Rattle.walk.specs.Word.{visitsOf}
 use Rattle.rules.specs.declared.Edition.{Edition}
 use Rattle.rules.specs.declared.Edition.the-variants.{E1, E2}
-use Rattle.encoder.specs.declared.Limit.{Limit}
-use Rattle.encoder.specs.declared.Limit.the-variants.{Whole, At}
+use Rattle.terms.specs.declared.Limit.{Limit}
+use Rattle.terms.specs.declared.Limit.the-variants.{Whole, At}
 use Rattle.encoder.specs.declared.Answer.{Answer}
 use Rattle.encoder.specs.declared.Answer.the-variants.{PrimaryShort, AlternateShort, Coded}
-use Rattle.encoder.specs.Trim.{trimmed}
+use Rattle.prepare.specs.Trim.{trimmed}
 use Rattle.encoder.specs.Encode.{primaryOf, alternateOf, visitsUnder, answerOf}
 
 pub record Known : Type 0 where

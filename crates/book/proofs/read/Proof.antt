@@ -2,7 +2,7 @@
 use mathlib.Core.Path.{sym, _∙_}
 use borrow.Author.Needs.{needs}
 use denote.Ref.{now}
-use Rattle.book.specs.Book.{formats}
+use Rattle.header.specs.Head.{formats}
 use Rattle.book.proofs.Opening.{reads, reads-bad, unopened}
 use Rattle.book.proofs.read.Statement.{statement}
 use Rattle.book.proofs.read.Tie as tie

@@ -5,8 +5,8 @@ use native.Mathlib.Omega.{arith}
 use borrow.Author.Needs.{needs}
 use denote.Ref.{now}
 use lib.ListN.{length, drop}
-use Rattle.book.specs.Book.{readEntry}
-use Rattle.book.proofs.Entries.{never-end}
+use Rattle.entry.specs.Entry.{readEntry}
+use Rattle.entry.proofs.Kind.{never-end}
 use Rattle.closing.proofs.Seeking.{Seeking, seek-start, seek-none, seek-never, passing, seek-hit, seek-on}
 use Rattle.closing.proofs.find_live.Statement.{statement}
 use Rattle.closing.proofs.find_live.Tie as tie

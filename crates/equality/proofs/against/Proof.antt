@@ -1,4 +1,4 @@
--- `equality::against` meets its contract, since the room is enough for any code, so that 3 and 4 are never answered. Assumes nothing.
+-- `equality::against` meets its contract, since the room is enough for any code, so that 3 and 4 are never answered.
 use mathlib.Core.Bool.{Bool, cond}
 use mathlib.Core.Path.{_≡_, ap, _∙_}
 use native.Mathlib.Omega.{arith}
@@ -8,10 +8,10 @@ use Rattle.encoder.specs.declared.Answer.the-variants as said
 use Rattle.equality.specs.declared.Verdict.the-variants.{Equal, Different}
 use Rattle.encoder.specs.Encode.{numberOf}
 use Rattle.rules.specs.declared.Edition.the-variants.{E1}
-use Rattle.encoder.specs.Chosen.{codeOf}
+use Rattle.demands.specs.Code.{codeOf}
 use Rattle.equality.specs.Equality.{unlessRefused, compared}
-use Rattle.encoder.proofs.Room.{never-three, never-four}
-use Rattle.encoder.proofs.Part.{part-is}
+use Rattle.demands.proofs.Room.{never-three, never-four}
+use Rattle.demands.proofs.Part.{part-is}
 use Rattle.equality.proofs.Asked.{told, compared-is}
 use Rattle.equality.proofs.against.Statement.{statement}
 use Rattle.equality.proofs.against.Tie as tie

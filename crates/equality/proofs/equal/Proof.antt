@@ -1,4 +1,4 @@
--- `equality::equal` meets its contract, since `against` gives the rest where the first word is accepted. Assumes nothing.
+-- `equality::equal` meets its contract, since `against` gives the rest where the first word is accepted.
 use Prim.Native.Nat.{ℕ}
 use mathlib.Core.List.{List}
 use mathlib.Core.Path.{ap, _∙_}
@@ -8,10 +8,10 @@ use denote.Ref.{now}
 use Rattle.encoder.specs.declared.Answer.the-variants as said
 use Rattle.encoder.specs.Encode.{numberOf}
 use Rattle.rules.specs.declared.Edition.the-variants.{E1}
-use Rattle.encoder.specs.Chosen.{codeOf}
+use Rattle.demands.specs.Code.{codeOf}
 use Rattle.equality.specs.Equality.{unlessRefused, compared}
-use Rattle.encoder.proofs.Room.{never-three, never-four}
-use Rattle.encoder.proofs.Part.{part-is}
+use Rattle.demands.proofs.Room.{never-three, never-four}
+use Rattle.demands.proofs.Part.{part-is}
 use Rattle.equality.proofs.Asked.{told}
 use Rattle.equality.proofs.Table.{answered}
 use Rattle.equality.proofs.equal.Statement.{statement}

@@ -1,4 +1,4 @@
--- `explain::simmerquilt_explain` meets its contract: it tells what `listing::explain` answers under the host's limit. Assumes nothing.
+-- `explain::simmerquilt_explain` meets its contract: it tells what `listing::explain` answers under the host's limit.
 use borrow.Author.Needs.{needs}
 use Rattle.explain.proofs.Face.{told-listed}
 use Rattle.explain.proofs.simmerquilt_explain.Statement.{statement}

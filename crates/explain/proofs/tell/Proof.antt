@@ -1,4 +1,4 @@
--- `explain::tell` meets its contract: each arm writes the numbers of its case. Assumes nothing.
+-- `explain::tell` meets its contract: each arm writes the numbers of its case.
 use borrow.Author.Needs.{needs}
 use Rattle.explain.proofs.tell.Statement.{statement}
 use Rattle.explain.proofs.tell.Tie as tie

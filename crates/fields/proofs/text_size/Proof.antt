@@ -1,4 +1,4 @@
--- `fields::text_size` meets its contract. Assumes nothing.
+-- `fields::text_size` meets its contract.
 use native.Mathlib.Omega.{arith}
 use borrow.Author.Needs.{needs}
 use denote.Ref.{now}

@@ -1,4 +1,4 @@
--- `keys::drain` is safe and ends, since with room for a line each feed passes a byte. Assumes nothing.
+-- `keys::drain` is safe and ends, since with room for a line each feed passes a byte.
 use Prim.Native.Nat.{_-_, _≤_}
 use mathlib.Core.Path.{_≡_}
 use native.Mathlib.Omega.{arith}

@@ -1,4 +1,4 @@
--- `keys::main` is safe and ends, since a last line has room. Assumes nothing.
+-- `keys::main` is safe and ends, since a last line has room.
 use native.Mathlib.Omega.{arith}
 use borrow.Author.Needs.{needs}
 use lib.ListN.{length-take}

@@ -1,4 +1,4 @@
--- `keys::read_all` is safe and ends, since the turns that are left fall by one and the slices keep their lengths. Assumes nothing.
+-- `keys::read_all` is safe and ends, since the turns that are left fall by one and the slices keep their lengths.
 use mathlib.Core.Path.{_≡_}
 use borrow.Author.Needs.{needs}
 use lib.ListN.{length}

@@ -1,4 +1,4 @@
--- `letters_c::is_hard` meets its contract: its expression is the condition. Assumes nothing.
+-- `letters_c::is_hard` meets its contract: its expression is the condition.
 use mathlib.Core.Path.{refl}
 use Rattle.rules.specs.Cond.{holds}
 use Rattle.letters_c.proofs.is_hard.Statement.{statement}

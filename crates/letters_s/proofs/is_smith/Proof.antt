@@ -1,4 +1,4 @@
--- `letters_s::is_smith` meets its contract: its expression is the condition. Assumes nothing.
+-- `letters_s::is_smith` meets its contract: its expression is the condition.
 use mathlib.Core.Path.{refl}
 use Rattle.rules.specs.Cond.{holds}
 use Rattle.letters_s.proofs.is_smith.Statement.{statement}

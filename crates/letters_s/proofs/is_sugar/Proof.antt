@@ -1,4 +1,4 @@
--- `letters_s::is_sugar` meets its contract: its expression is the condition. Assumes nothing.
+-- `letters_s::is_sugar` meets its contract: its expression is the condition.
 use mathlib.Core.Path.{refl}
 use borrow.Author.Tests.{eq-eqb, ne-eqb}
 use Rattle.rules.specs.Cond.{holds}

@@ -1,4 +1,4 @@
--- `lines::answer` meets its contract, since what is stored is the part of the line buffer where the line lies. Assumes nothing.
+-- `lines::answer` meets its contract, since what is stored is the part of the line buffer where the line lies.
 use Prim.Native.Nat.{ℕ}
 use mathlib.Core.List.{List}
 use mathlib.Core.Path.{sym, ap, _∙_}
@@ -7,9 +7,8 @@ use borrow.Author.Needs.{needs}
 use denote.Ref.{now}
 use lib.ListN.{length, length-drop, length-take}
 use lib.Seq.{sets}
-use Rattle.lines.specs.Lines.{lineOf}
+use Rattle.line.specs.Line.{lineOf, Lies}
 use Rattle.lines.specs.Feed.{hand}
-use Rattle.lines.specs.Inside.{Lies}
 use Rattle.lines.proofs.Hand.{some-held}
 use Rattle.lines.proofs.answer.Statement.{statement}
 use Rattle.lines.proofs.answer.Tie as tie
@@ -29,17 +28,17 @@ lies c =
     let s = some-held (hand (entry c .args .held) (now (entry c .args .word))) in
     (s .0, c .held-line .ensures (s .0) (s .1))
 
-sub-put : tie.Need-sub-put
-sub-put c = lies (c .before .before) .1 .ordered
+sub-copy-to : tie.Need-sub-copy-to
+sub-copy-to c = lies (c .before .before) .1 .ordered
 
-part-put-start : tie.Need-part-put-start
-part-put-start c = lies (c .before .before .before) .1 .ordered
+part-copy-to-start : tie.Need-part-copy-to-start
+part-copy-to-start c = lies (c .before .before .before) .1 .ordered
 
-part-put-end : tie.Need-part-put-end
-part-put-end c = lies (c .before .before .before) .1 .within
+part-copy-to-end : tie.Need-part-copy-to-end
+part-copy-to-end c = lies (c .before .before .before) .1 .within
 
-put-requires : tie.Need-put-requires
-put-requires c κs =
+copy-to-requires : tie.Need-copy-to-requires
+copy-to-requires c κs =
     let m = c .before .before .before .before in
     let l = lies m .1 in
     simp (length-take, length-drop) (omega (arith, l .within, m .held-line .kept .1 .1 .0))
@@ -59,7 +58,7 @@ returns c =
       long = λ p x.
           let k = m .held-line .ensures p x in
           sym (ap length (sym (k .bytes)) ∙ simp (length-take, length-drop) (omega (arith, l .within)));
-      output = λ p x. c .before .before .put .ensures ∙ ap (λ (b : List ℕ). sets (now (entry m .args .out)) (entry m .args .wrote) b) (m .held-line .ensures p x .bytes);
+      output = λ p x. c .before .before .copy-to .ensures ∙ ap (λ (b : List ℕ). sets (now (entry m .args .out)) (entry m .args .wrote) b) (m .held-line .ensures p x .bytes);
     }
 
 pub answer-spec : {M : Type 1} → statement M
@@ -68,10 +67,10 @@ answer-spec =
     (tie.spec
     slice-aggregate-held-line
     held-line-requires
-    sub-put
-    part-put-start
-    part-put-end
-    put-requires
+    sub-copy-to
+    part-copy-to-start
+    part-copy-to-end
+    copy-to-requires
     sub-result
     same-length
     returns)

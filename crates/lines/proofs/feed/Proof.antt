@@ -1,5 +1,5 @@
 -- `lines::feed` meets its contract, since the bytes passed were read, what they leave of a line is held, and before each there was
--- room for a line. Assumes nothing.
+-- room for a line.
 use Prim.Native.Nat.{ℕ, _-_, _≤_}
 use mathlib.Core.List.{List}
 use mathlib.Core.Path.{_≡_, refl, sym, ap, _∙_}

@@ -1,4 +1,4 @@
--- `lines::finish` meets its contract: nothing held is no line, and anything else is the last. Assumes nothing.
+-- `lines::finish` meets its contract: nothing held is no line, and anything else is the last.
 use native.Mathlib.Omega.{arith}
 use borrow.Author.Needs.{needs}
 use denote.Ref.{now}

@@ -1,13 +1,13 @@
--- `lines::held_line` meets its contract, since a line that is too long is refused by 1, and any other is the buffer's front. Assumes nothing.
+-- `lines::held_line` meets its contract, since a line that is too long is refused by 1, and any other is the buffer's front.
 use Prim.Native.Nat.{ℕ}
 use mathlib.Core.List.{List}
 use mathlib.Core.Path.{refl, ap}
 use native.Mathlib.Omega.{arith}
 use borrow.Author.Needs.{needs}
 use lib.ListN.{length-take}
-use Rattle.lines.specs.Lines.{lineOf}
-use Rattle.lines.proofs.Place.{lies-in}
-use Rattle.lines.proofs.Line.{too-long-line}
+use Rattle.line.specs.Line.{lineOf}
+use Rattle.line.proofs.Place.{lies-in}
+use Rattle.line.proofs.Line.{too-long-line}
 use Rattle.lines.proofs.held_line.Statement.{statement}
 use Rattle.lines.proofs.held_line.Tie as tie
 

@@ -1,4 +1,4 @@
--- `lines::hold` meets its contract, which says what it stores on either side of the limit. Assumes nothing.
+-- `lines::hold` meets its contract, which says what it stores on either side of the limit.
 use borrow.Author.Needs.{needs}
 use denote.Ref.{now}
 use Rattle.lines.proofs.Hand.{keep-short, keep-long}

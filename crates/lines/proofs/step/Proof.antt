@@ -1,4 +1,4 @@
--- `lines::step` meets its contract: byte 10 stores the line of what is held, and any other byte is held. Assumes nothing.
+-- `lines::step` meets its contract: byte 10 stores the line of what is held, and any other byte is held.
 use borrow.Author.Needs.{needs}
 use denote.Ref.{now}
 use Rattle.lines.specs.Feed.{hand}

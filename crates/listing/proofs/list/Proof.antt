@@ -1,7 +1,7 @@
--- `listing::list` meets its contract: where the rows do not all fit the room is as it was, else they are written. Assumes nothing.
+-- `listing::list` meets its contract: where the rows do not all fit the room is as it was, else they are written.
 use borrow.Author.Needs.{needs}
 use denote.Ref.{now}
-use Rattle.listing.specs.Listing.{editionIf}
+use Rattle.row_writer.specs.Written.{editionIf}
 use Rattle.listing.proofs.Answers.{short, enough}
 use Rattle.listing.proofs.list.Statement.{statement}
 use Rattle.listing.proofs.list.Tie as tie

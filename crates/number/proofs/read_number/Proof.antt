@@ -1,5 +1,4 @@
 -- `number::read_number` meets its contract: behind the slice's end there is nothing to read, and a first byte below 128 is the number.
--- Assumes nothing.
 use Prim.Native.Nat.{ℕ}
 use mathlib.Core.Path.{sym, ap, _∙_}
 use mathlib.Core.Bool.{true}

@@ -1,5 +1,4 @@
 -- `number::width` meets its contract: a shift by seven is a division by 128.
--- Assumes nothing.
 use borrow.Author.Tests.{lt-ltb, le-ltb}
 use Rattle.number.proofs.Laws.{last-group}
 use Rattle.number.proofs.width.Statement.{statement}

@@ -1,5 +1,4 @@
 -- `number::write_number` meets its contract: each answer is the definition's, by what the tests showed and what `width` and `write_from` ensure.
--- Assumes nothing.
 use Prim.Native.Nat.{ℕ, _+_}
 use mathlib.Core.Path.{ap, sym, _∙_}
 use native.Mathlib.Omega.{arith}

@@ -1,4 +1,4 @@
--- `replay::find` meets its contract, since the place rises from the start to the length at most. Assumes nothing.
+-- `replay::find` meets its contract, since the place rises from the start to the length at most.
 use Prim.Native.Nat.{_≤_, _-_}
 use borrow.Author.Needs.{needs}
 use lib.ListN.{length}

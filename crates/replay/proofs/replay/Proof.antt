@@ -1,4 +1,4 @@
--- `replay::replay` is safe and ends, since each turn passes a byte and adds one to one of the counts. Assumes nothing.
+-- `replay::replay` is safe and ends, since each turn passes a byte and adds one to one of the counts.
 use Prim.Native.Nat.{_≤_, _+_, _-_}
 use borrow.Author.Needs.{needs}
 use lib.ListN.{length}

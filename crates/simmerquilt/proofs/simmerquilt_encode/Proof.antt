@@ -1,4 +1,4 @@
--- `simmerquilt::simmerquilt_encode` meets its contract: it tells what `encode` answers under the host's limit. Assumes nothing.
+-- `simmerquilt::simmerquilt_encode` meets its contract: it tells what `encode` answers under the host's limit.
 use borrow.Author.Needs.{needs}
 use Rattle.simmerquilt.proofs.Face.{told-encoded}
 use Rattle.simmerquilt.proofs.simmerquilt_encode.Statement.{statement}

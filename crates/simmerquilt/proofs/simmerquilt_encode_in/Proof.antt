@@ -1,4 +1,4 @@
--- `simmerquilt::simmerquilt_encode_in` meets its contract: it tells what `encode_in` replies under the host's limit. Assumes nothing.
+-- `simmerquilt::simmerquilt_encode_in` meets its contract: it tells what `encode_in` replies under the host's limit.
 use borrow.Author.Needs.{needs}
 use Rattle.simmerquilt.proofs.Face.{told-in}
 use Rattle.simmerquilt.proofs.simmerquilt_encode_in.Statement.{statement}

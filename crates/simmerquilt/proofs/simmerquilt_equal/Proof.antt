@@ -1,12 +1,11 @@
 -- `simmerquilt::simmerquilt_equal` meets its contract: it tells what `equal` answers under the host's limit and choice.
--- Assumes nothing.
 use mathlib.Core.Path.{ap, ap₂, _∙_}
 use borrow.Author.Needs.{needs}
 use denote.Ref.{now}
-use Rattle.encoder.specs.declared.Limit.{Limit}
-use Rattle.encoder.specs.declared.Choice.{Choice}
+use Rattle.terms.specs.declared.Limit.{Limit}
+use Rattle.chosen.specs.declared.Choice.{Choice}
 use Rattle.equality.specs.Equality.{verdictOf}
-use Rattle.answers.specs.Numbers.{verdictNumbers}
+use Rattle.telling_keys.specs.Numbers.{verdictNumbers}
 use Rattle.simmerquilt.proofs.simmerquilt_equal.Statement.{statement}
 use Rattle.simmerquilt.proofs.simmerquilt_equal.Tie as tie
 

@@ -1,4 +1,4 @@
--- `stations::put_records` is safe and ends, since each record moves the cursor on, and not past the end. Assumes nothing.
+-- `stations::put_records` is safe and ends, since each record moves the cursor on, and not past the end.
 use Prim.Native.Nat.{ℕ, _≤_, _<_, _-_}
 use mathlib.Core.Path.{_≡_, refl, sym, _∙_}
 use mathlib.Core.Bool.{Bool, true, false, cond}
@@ -9,11 +9,13 @@ use borrow.Author.Tests.{ltb-true}
 use denote.Ref.{now}
 use lib.Dec.{ltb, eqb}
 use lib.ListN.{length, drop}
-use Rattle.fields.specs.declared.Span.{Span}
-use Rattle.book.specs.declared.Cursor.{Cursor}
-use Rattle.book.specs.declared.Step.the-variants as step
-use Rattle.book.specs.Book.{readEntry}
-use Rattle.book.specs.Told.{stepAt, unknown, stepOf, nextOf, unmeasured}
+use Rattle.slices.specs.declared.Span.{Span}
+use Rattle.header.specs.declared.Cursor.{Cursor}
+use Rattle.entry.specs.declared.Step.the-variants as step
+use Rattle.entry.specs.Entry.{readEntry}
+use Rattle.entry.specs.Told.{stepAt}
+use Rattle.header.specs.Head.{unknown}
+use Rattle.book.specs.Told.{stepOf, nextOf, unmeasured}
 use Rattle.book.proofs.Measured.{turn}
 use Rattle.stations.proofs.put_records.Statement.{statement}
 use Rattle.stations.proofs.put_records.Tie as tie

@@ -1,4 +1,4 @@
--- `tally::append_alternate` meets its contract, from what `longer` ensures. Assumes nothing.
+-- `tally::append_alternate` meets its contract, from what `longer` ensures.
 use borrow.Author.Needs.{needs}
 use Rattle.tally.proofs.append_alternate.Statement.{statement}
 use Rattle.tally.proofs.append_alternate.Tie as tie

@@ -1,4 +1,4 @@
--- `tally::append_primary` meets its contract, from what `longer` ensures. Assumes nothing.
+-- `tally::append_primary` meets its contract, from what `longer` ensures.
 use borrow.Author.Needs.{needs}
 use Rattle.tally.proofs.append_primary.Statement.{statement}
 use Rattle.tally.proofs.append_primary.Tie as tie

@@ -1,4 +1,4 @@
--- `tally::counted` meets its contract, from what the two appends ensure. Assumes nothing.
+-- `tally::counted` meets its contract, from what the two appends ensure.
 use borrow.Author.Needs.{needs}
 use Rattle.tally.proofs.counted.Statement.{statement}
 use Rattle.tally.proofs.counted.Tie as tie

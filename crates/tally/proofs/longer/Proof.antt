@@ -1,4 +1,4 @@
--- `tally::longer` meets its contract: one byte and then one more, each clipped, are the addition clipped. Assumes nothing.
+-- `tally::longer` meets its contract: one byte and then one more, each clipped, are the addition clipped.
 use Prim.Native.Nat.{ℕ, _+_, _-_, min}
 use mathlib.Core.Path.{_≡_}
 use mathlib.Core.List.{[], _∷_}

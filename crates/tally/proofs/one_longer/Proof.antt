@@ -1,4 +1,4 @@
--- `tally::one_longer` meets its contract. Assumes nothing.
+-- `tally::one_longer` meets its contract.
 use native.Mathlib.Omega.{arith}
 use Rattle.tally.proofs.one_longer.Statement.{statement}
 use Rattle.tally.proofs.one_longer.Tie as tie

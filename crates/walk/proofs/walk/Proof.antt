@@ -1,5 +1,5 @@
 -- `walk::walk` meets its contract. The invariant, `Going`, says that the bytes written and those that the definition has
--- still to come from here on are the code; the measure is what is left of the word. Assumes nothing.
+-- still to come from here on are the code; the measure is what is left of the word.
 use Prim.Native.Nat.{ℕ, _-_, _<_, _≤_}
 use mathlib.Core.Path.{_≡_, refl, sym, _∙_, ap, ap₂, subst}
 use mathlib.Core.Bool.{Bool, true, false, _&&_}
@@ -9,7 +9,7 @@ use borrow.Author.Needs.{needs}
 use denote.Ref.{now}
 use lib.Dec.{leb}
 use lib.ListN.{length}
-use Rattle.windows.specs.Text.{upper}
+use Rattle.byte.specs.Text.{upper}
 use Rattle.rules.specs.Cond.{mode, isSecond}
 use Rattle.rules.specs.declared.Edition.{Edition}
 use Rattle.rules.specs.declared.Edition.the-variants.{E1, E2}
@@ -17,7 +17,7 @@ use Rattle.rules.specs.Table.{visit}
 use Rattle.rules.proofs.Bound.{visit-short}
 use Rattle.tally.specs.declared.Tally.{Tally}
 use Rattle.tally.specs.Tally.{counted}
-use Rattle.letters.specs.declared.Visited.{Visited}
+use Rattle.visiting.specs.declared.Visited.{Visited}
 use Rattle.walk.specs.Word.{ruleOf, limitedOf}
 use Rattle.walk.proofs.Turn.{Written, Going, going, room-p, room-a, turned, at-end, at-limit}
 use Rattle.walk.proofs.walk.Statement.{statement}

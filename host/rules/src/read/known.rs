@@ -8,7 +8,7 @@ const HERE: &str = "host/rules/src/read/known.rs";
 
 const KNOWN: &[(&str, &str)] = &[
     (
-        "crates/windows/specs/Window.antt",
+        "crates/byte/specs/Vowel.antt",
         r#"
 vowel = among (bytes "AEIOUY")
 "#,
@@ -108,11 +108,16 @@ spokenAt u p m = speaker (numbered (casesIn rows (getD u p 0))) u p m
 "#,
     ),
     (
-        "crates/walk/specs/Word.antt",
+        "crates/word/specs/Mark.antt",
         r#"
 markTexts = map bytes ("W" ∷ "K" ∷ "CZ" ∷ "WITZ" ∷ [])
 markTextsBrief = map bytes ("W" ∷ "K" ∷ "CZ" ∷ [])
 slavoGermanic u = hasOne markTexts u
+"#,
+    ),
+    (
+        "crates/word/specs/Start.antt",
+        r#"
 silentStarts = map bytes ("GN" ∷ "KN" ∷ "PN" ∷ "WR" ∷ "PS" ∷ [])
 startOf w = cond (sees (upper w) 0 2 silentStarts) 1 0
 "#,

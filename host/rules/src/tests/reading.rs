@@ -147,9 +147,9 @@ fn another_meaning_is_refused() {
         ("Told.antt", "textOf (non c) u p = 0", "textOf (non c) u p = textOf c u p"),
         ("Told.antt", "orElse a b = cond (eqb a 0) b a", "orElse a b = cond (eqb b 0) a b"),
         ("Table.antt", "casesIn [] b = casesRest", "casesIn [] b = casesVowel"),
-        ("crates/windows/specs/Window.antt", "(bytes \"AEIOUY\")", "(bytes \"AEIOU\")"),
-        ("crates/walk/specs/Word.antt", "\"PN\" ∷ ", ""),
-        ("crates/walk/specs/Word.antt", "slavoGermanic u = hasOne markTexts u", "slavoGermanic u = false"),
+        ("crates/byte/specs/Vowel.antt", "(bytes \"AEIOUY\")", "(bytes \"AEIOU\")"),
+        ("crates/word/specs/Start.antt", "\"PN\" ∷ ", ""),
+        ("crates/word/specs/Mark.antt", "slavoGermanic u = hasOne markTexts u", "slavoGermanic u = false"),
     ];
     for (file, old, new) in changes {
         let fault = read(&changed(file, old, new)).expect_err(new).to_string();

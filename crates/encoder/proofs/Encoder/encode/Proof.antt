@@ -1,4 +1,4 @@
--- `encoder::Encoder::encode` meets its contract, since at each return the tests that led there say which answer it is. Assumes nothing.
+-- `encoder::Encoder::encode` meets its contract, since at each return the tests that led there say which answer it is.
 use Prim.Native.Nat.{ℕ, _≤_}
 use mathlib.Core.Path.{_≡_, sym, ap, _∙_}
 use mathlib.Core.List.{List}
@@ -9,10 +9,11 @@ use borrow.Author.Tests.{not-true, not-false}
 use denote.Ref.{now}
 use lib.ListN.{length}
 use Rattle.rules.specs.declared.Edition.{Edition}
-use Rattle.encoder.specs.declared.Limit.{Limit}
-use Rattle.encoder.specs.Trim.{trimmed, isAscii}
-use Rattle.encoder.specs.Encode.{wordLimit, needOf, capOf}
-use Rattle.encoder.proofs.Trim.{Inner, inner}
+use Rattle.terms.specs.declared.Limit.{Limit}
+use Rattle.prepare.specs.Trim.{trimmed, isAscii}
+use Rattle.terms.specs.Limits.{wordLimit}
+use Rattle.needs.specs.Needs.{needOf, capOf}
+use Rattle.prepare.proofs.Trim.{Inner, inner}
 use Rattle.encoder.proofs.Answers.{too-long, not-ascii, primary-short, alternate-short, has-room, coded}
 use Rattle.encoder.proofs.Encoder.encode.Statement.{statement}
 use Rattle.encoder.proofs.Encoder.encode.Tie as tie

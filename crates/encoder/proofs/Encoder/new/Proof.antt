@@ -1,4 +1,4 @@
--- `encoder::Encoder::new` meets its contract: it is the encoder of edition 1. Assumes nothing.
+-- `encoder::Encoder::new` meets its contract: it is the encoder of edition 1.
 use Rattle.encoder.proofs.Encoder.new.Statement.{statement}
 use Rattle.encoder.proofs.Encoder.new.Tie as tie
 

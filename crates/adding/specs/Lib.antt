@@ -1,0 +1,3 @@
+-- Adding a record.
+--     Adding   what adding answers and leaves, closing up among it
+pub mod Adding

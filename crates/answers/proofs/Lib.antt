@@ -1,3 +1,0 @@
--- Laws of answers as numbers.
---     NoChoice   no public function's promise leaves a choice
-pub mod NoChoice

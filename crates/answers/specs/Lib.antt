@@ -1,3 +1,0 @@
--- Answers as numbers.
---     Numbers   the numbers of each answer
-pub mod Numbers

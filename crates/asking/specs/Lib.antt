@@ -1,0 +1,3 @@
+-- A host's numbers.
+--     Asked   a limit and a choice
+pub mod Asked

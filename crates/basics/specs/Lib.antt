@@ -1,0 +1,3 @@
+-- What has nothing to do with words.
+--     Same   two lists are equal, as a test
+pub mod Same

@@ -1,0 +1,3 @@
+-- The face of the book.
+--     Face   a cursor
+pub mod Face

@@ -1,0 +1,3 @@
+-- Chains of records.
+--     Chain   slots and chains
+pub mod Chain

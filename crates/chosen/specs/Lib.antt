@@ -1,0 +1,3 @@
+-- The chosen code.
+--     Chosen   the chosen code as a part of its buffer
+pub mod Chosen

@@ -1,0 +1,3 @@
+-- A book closed up.
+--     Up   what closing up makes of a part of a room
+pub mod Up

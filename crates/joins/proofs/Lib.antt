@@ -1,0 +1,3 @@
+-- Laws of the face.
+--     NoChoice   no public function's promise leaves a choice
+pub mod NoChoice

@@ -1,0 +1,3 @@
+-- A new record.
+--     Keyed   a new record and its faults
+pub mod Keyed

@@ -1,0 +1,3 @@
+-- Records laid out.
+--     Span   where the chosen code lies
+pub mod Span

@@ -1,9 +1,0 @@
--- A visit, and the tally that took it in.
-use Prim.Native.Nat.{ℕ}
-use Rattle.rules.specs.declared.Visit.{Visit}
-use Rattle.tally.specs.declared.Tally.{Tally}
-use Rattle.tally.specs.Tally.{counted}
-use Rattle.letters.specs.declared.Visited.{Visited}
-
-abbrev pub visited : Tally → ℕ → Visit → Visited
-visited t limit v = record { tally = counted t limit v; visit = v }

@@ -1,5 +1,0 @@
--- Laws of this crate's letters.
---     Ways       each letter's cases are the ways through its tree
---     NoChoice   no public function's promise leaves a choice
-pub mod Ways
-pub mod NoChoice

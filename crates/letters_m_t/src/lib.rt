@@ -1,6 +1,0 @@
-// The rules of M, P, R and T: one function for each branch of a letter, and one for each compound test. What a letter's rule promises
-// is the first of its cases that holds; a branch's function promises its tree (specs/Trees.antt), a test's its condition.
-pub mod m;
-pub mod p;
-pub mod r;
-pub mod t;

@@ -1,0 +1,3 @@
+-- For the proofs: the trees of P.
+--     Trees   its branches, in the shape of the code
+pub mod Trees

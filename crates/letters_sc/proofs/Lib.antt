@@ -1,0 +1,3 @@
+-- Laws of S before C.
+--     NoChoice   no public function's promise leaves a choice
+pub mod NoChoice

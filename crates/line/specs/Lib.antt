@@ -1,0 +1,3 @@
+-- One line.
+--     Line   what is written for a word
+pub mod Line

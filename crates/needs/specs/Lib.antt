@@ -1,0 +1,3 @@
+-- What a word needs.
+--     Needs   the need of a word, and the limit of its walk
+pub mod Needs

@@ -1,7 +1,0 @@
--- The pairs of a join.
---     Cut     a code under a limit, the smaller of two limits
---     Pairs   the definition: all pairs of stations whose codes agree, and their order
---     Listed  records as they lie in scratch words
-pub mod Cut
-pub mod Pairs
-pub mod Listed

@@ -1,0 +1,10 @@
+// Room for a program's whole input.
+ghost use mathlib.Core.Path.{_≡_};
+ghost use lib.ListN.{length};
+
+// A mebibyte of zeros. As a function's result it is made where it is kept, and no caller's proof writes it out.
+pub fn mebibyte() -> [u8; 1048576]
+    ensures { λ r. ⌜ 1048576 ≡ length r ⌝ }
+{
+    [0; 1048576]
+}

@@ -1,0 +1,3 @@
+-- Rows written.
+--     Written   the first rows of a listing
+pub mod Written

@@ -1,7 +1,0 @@
--- Laws of two books that are to be joined.
---     Books      what is told of a book that was read, and of two that meet or are refused; stations are small
---     Laid       records laid out in scratch words, one after the other
---     NoChoice   no public function's promise leaves a choice
-pub mod Books
-pub mod Laid
-pub mod NoChoice

@@ -1,0 +1,3 @@
+-- Parts of slices.
+--     Parts   the bytes of a part
+pub mod Parts

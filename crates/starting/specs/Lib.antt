@@ -1,0 +1,3 @@
+-- A new book.
+--     New   a new book
+pub mod New

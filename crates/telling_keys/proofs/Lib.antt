@@ -1,0 +1,3 @@
+-- Laws of what is told.
+--     NoChoice   no public function's promise leaves a choice
+pub mod NoChoice

@@ -1,0 +1,3 @@
+-- Answers as numbers.
+--     Numbers   answers as numbers
+pub mod Numbers

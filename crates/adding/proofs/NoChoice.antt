@@ -8,9 +8,9 @@ use Rattle.adding.proofs.add.Kinds as add-kinds
 use Rattle.adding.proofs.add.Reads as add
 use contract.Lifetimes.{Lfts}
 
-pub one-add : OneResult add-kinds.ps add-kinds.r add.Post
-one-add κs a x y s t p q = p.answer ∙ sym q.answer
+pub one_add : OneResult add-kinds.ps add-kinds.r add.Post
+one_add κs a x y s t p q = p.answer ∙ sym q.answer
 
 module _ (κs : Lfts 2) (a : Dens κs add-kinds.ps) (x y : (res_t add-kinds.r κs).Denot) (s t : AtExit (ended_of 2 add-kinds.ps add-kinds.r) κs) where
-  pub one-add-room : add.Post κs a x s → add.Post κs a y t → s.0.now ≡ t.0.now
-  one-add-room p q = p.leaves ∙ sym q.leaves
+  pub one_add_room : add.Post κs a x s → add.Post κs a y t → s.0.now ≡ t.0.now
+  one_add_room p q = p.leaves ∙ sym q.leaves

@@ -4,15 +4,15 @@ use Rattle.std.specs.Prelude.{ℕ, List}
 use Rattle.fields.specs.Got.{Got}
 use Rattle.book.specs.Book.{Book}
 use Rattle.putting.specs.declared.Made.{Made}
-use Rattle.keying.specs.Keyed.{newBytes, newFault}
-use Rattle.fitting.specs.Base.{addAnswer, addLeaves, AddedAs}
+use Rattle.keying.specs.Keyed.{new_bytes, new_fault}
+use Rattle.fitting.specs.Base.{add_answer, add_leaves, AddedAs}
 
 -- 1, 2, 5, 8, then 9
-abbrev pub addedBy : List ℕ → ℕ → ℕ → List ℕ → Got Book → Made
-addedBy room len station name x = addAnswer (λ floor. newFault floor station name) (λ h. newBytes h station name) room len x
+abbrev pub added_by : List ℕ → ℕ → ℕ → List ℕ → Got Book → Made
+added_by room len station name x = add_answer (λ floor. new_fault floor station name) (λ h. new_bytes h station name) room len x
 
-abbrev pub leftBy : List ℕ → ℕ → ℕ → List ℕ → Got Book → List ℕ
-leftBy room len station name x = addLeaves (λ floor. newFault floor station name) (λ h. newBytes h station name) room len x
+abbrev pub left_by : List ℕ → ℕ → ℕ → List ℕ → Got Book → List ℕ
+left_by room len station name x = add_leaves (λ floor. new_fault floor station name) (λ h. new_bytes h station name) room len x
 
 abbrev pub Added : List ℕ → ℕ → ℕ → List ℕ → Made → List ℕ → Type 0
-Added room len station name r room' = AddedAs (λ floor. newFault floor station name) (λ h. newBytes h station name) room len r room'
+Added room len station name r room' = AddedAs (λ floor. new_fault floor station name) (λ h. new_bytes h station name) room len r room'

@@ -16,9 +16,9 @@ module _ (κs : Lfts 1) (a : Dens κs answer-kinds.ps) (x y : (res_t answer-kind
   one_answer p q = p ∙ sym q
 
 module _ (κs : Lfts 1) (a : Dens κs reply-kinds.ps) (x y : (res_t reply-kinds.r κs).Denot) (s t : AtExit (ended_of 1 reply-kinds.ps reply-kinds.r) κs) where
-  pub one-reply : reply.Post κs a x s → reply.Post κs a y t → s.1.0.now ≡ t.1.0.now
-  one-reply p q = p ∙ sym q
+  pub one_reply : reply.Post κs a x s → reply.Post κs a y t → s.1.0.now ≡ t.1.0.now
+  one_reply p q = p ∙ sym q
 
 module _ (κs : Lfts 1) (a : Dens κs verdict-kinds.ps) (x y : (res_t verdict-kinds.r κs).Denot) (s t : AtExit (ended_of 1 verdict-kinds.ps verdict-kinds.r) κs) where
-  pub one-verdict : verdict.Post κs a x s → verdict.Post κs a y t → s.1.0.now ≡ t.1.0.now
-  one-verdict p q = p ∙ sym q
+  pub one_verdict : verdict.Post κs a x s → verdict.Post κs a y t → s.1.0.now ≡ t.1.0.now
+  one_verdict p q = p ∙ sym q

@@ -8,14 +8,14 @@ use Rattle.answers.specs.declared.Reply.TheVariants as reply
 use Rattle.answers.specs.Verdicts as verdict
 
 -- number, place, primary length, alternate length, visits
-abbrev pub answerNumbers : Answer → List ℕ
-answerNumbers r = number_of r ∷ place_of r ∷ primaryLength r ∷ alternateLength r ∷ visitCount r ∷ []
+abbrev pub answer_numbers : Answer → List ℕ
+answer_numbers r = number_of r ∷ place_of r ∷ primaryLength r ∷ alternateLength r ∷ visitCount r ∷ []
 
 -- the same of a reply: 7 for an edition that is not known
-abbrev pub replyNumbers : Reply → List ℕ
-replyNumbers (reply.Answered r) = answerNumbers r
-replyNumbers reply.UnknownEdition = 7 ∷ 0 ∷ 0 ∷ 0 ∷ 0 ∷ []
+abbrev pub reply_numbers : Reply → List ℕ
+reply_numbers (reply.Answered r) = answer_numbers r
+reply_numbers reply.UnknownEdition = 7 ∷ 0 ∷ 0 ∷ 0 ∷ 0 ∷ []
 
 -- number, which word, place, and 1 for equal
-abbrev pub verdictNumbers : Verdict → List ℕ
-verdictNumbers r = verdict.number_of r ∷ verdict.word_of r ∷ verdict.place_of r ∷ verdict.equal_of r ∷ []
+abbrev pub verdict_numbers : Verdict → List ℕ
+verdict_numbers r = verdict.number_of r ∷ verdict.word_of r ∷ verdict.place_of r ∷ verdict.equal_of r ∷ []

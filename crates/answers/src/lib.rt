@@ -1,6 +1,6 @@
 // What the encoder and the equality question answer, and each answer as a host's numbers.
 ghost use Rattle.std.specs.Prelude.{◌≡◌};
-ghost use Rattle.answers.specs.Numbers.{answerNumbers, replyNumbers, verdictNumbers};
+ghost use Rattle.answers.specs.Numbers.{answer_numbers, reply_numbers, verdict_numbers};
 
 // The answers 0 to 4 of document 01, in its order; the place is that of the first byte that is no ASCII.
 #[derive(Drop)]
@@ -34,7 +34,7 @@ pub enum Verdict {
 
 // Number, place, both lengths and visits.
 pub fn tell_answer(answer: Answer, out: &mut [u64; 5])
-    ensures { out.new ≡ answerNumbers answer }
+    ensures { out.new ≡ answer_numbers answer }
 {
     match answer {
         Answer::Coded {
@@ -61,7 +61,7 @@ pub fn tell_answer(answer: Answer, out: &mut [u64; 5])
 
 // The same, and 7 for an edition that is not known.
 pub fn tell_reply(reply: Reply, out: &mut [u64; 5])
-    ensures { out.new ≡ replyNumbers reply }
+    ensures { out.new ≡ reply_numbers reply }
 {
     match reply {
         Reply::Answered(answer) => tell_answer(answer, out),
@@ -73,7 +73,7 @@ pub fn tell_reply(reply: Reply, out: &mut [u64; 5])
 
 // Number, which word, place, and 1 for equal.
 pub fn tell_verdict(verdict: Verdict, out: &mut [u64; 4])
-    ensures { out.new ≡ verdictNumbers verdict }
+    ensures { out.new ≡ verdict_numbers verdict }
 {
     match verdict {
         Verdict::Equal => {

@@ -8,9 +8,9 @@ use Rattle.appending.proofs.append.Kinds as append-kinds
 use Rattle.appending.proofs.append.Reads as append
 use contract.Lifetimes.{Lfts}
 
-pub one-append : OneResult append-kinds.ps append-kinds.r append.Post
-one-append κs a x y s t p q = p.answer ∙ sym q.answer
+pub one_append : OneResult append-kinds.ps append-kinds.r append.Post
+one_append κs a x y s t p q = p.answer ∙ sym q.answer
 
 module _ (κs : Lfts 2) (a : Dens κs append-kinds.ps) (x y : (res_t append-kinds.r κs).Denot) (s t : AtExit (ended_of 2 append-kinds.ps append-kinds.r) κs) where
-  pub one-append-room : append.Post κs a x s → append.Post κs a y t → s.0.now ≡ t.0.now
-  one-append-room p q = p.leaves ∙ sym q.leaves
+  pub one_append_room : append.Post κs a x s → append.Post κs a y t → s.0.now ≡ t.0.now
+  one_append_room p q = p.leaves ∙ sym q.leaves

@@ -2,9 +2,9 @@
 // result; a refusal changes nothing. crates/adding adds to a book that it reads first.
 ghost use Rattle.std.specs.Prelude.{◌≡◌, ◌+◌, ◌≤◌, leb, length};
 ghost use Rattle.putting.specs.Laid.{Placed};
-ghost use Rattle.placing.specs.Placing.{floorWhere};
-ghost use Rattle.keying.specs.Keyed.{newBytes, newFault};
-ghost use Rattle.appending.specs.Ended.{endFault, Appended};
+ghost use Rattle.placing.specs.Placing.{floor_where};
+ghost use Rattle.keying.specs.Keyed.{new_bytes, new_fault};
+ghost use Rattle.appending.specs.Ended.{end_fault, Appended};
 
 use answers::Answer;
 use book::{End, Ended};
@@ -25,8 +25,8 @@ fn append_under(
 ) -> Made
     requires { len ≤ length room.old }
     ensures { Placed
-        (newFault (floorWhere (leb (len + length (newBytes header station name.now)) (length room.old)) header.format floor) station name.now)
-        room.old len (newBytes header station name.now) result room.new }
+        (new_fault (floor_where (leb (len + length (new_bytes header station name.now)) (length room.old)) header.format floor) station name.now)
+        room.old len (new_bytes header station name.now) result room.new }
 {
     let mut primary = [0u8; CODE_ROOM];
     let mut alternate = [0u8; CODE_ROOM];
@@ -56,7 +56,7 @@ fn append_under(
 
 // 7 for a format or an edition that is not known, then 6 for a book that ends behind the room; else 0.
 fn end_fault(end: End, room: usize) -> u8
-    ensures { result ≡ endFault end room }
+    ensures { result ≡ end_fault end room }
 {
     let header = end.header;
     let fault = header::unknown_fault(header.format, header.edition);

@@ -3,17 +3,17 @@
 use Rattle.std.specs.Prelude.{ℕ, suc, ◌≤◌, ◌<◌, List, [], ◌∷◌, Bool, false, not, cond, ◌||◌, leb, length, get_or}
 
 -- some byte is 128 or more
-abbrev pub anyHigh : List ℕ → Bool
-anyHigh [] = false
-anyHigh (b ∷ w) = leb 128 b || anyHigh w
+abbrev pub any_high : List ℕ → Bool
+any_high [] = false
+any_high (b ∷ w) = leb 128 b || any_high w
 
-abbrev pub isAscii : List ℕ → Bool
-isAscii w = not (anyHigh w)
+abbrev pub is_ascii : List ℕ → Bool
+is_ascii w = not (any_high w)
 
 -- the place of the first byte of 128 or more, and the length where there is none
-abbrev pub firstHigh : List ℕ → ℕ
-firstHigh [] = 0
-firstHigh (b ∷ w) = cond (leb 128 b) 0 (suc (firstHigh w))
+abbrev pub first_high : List ℕ → ℕ
+first_high [] = 0
+first_high (b ∷ w) = cond (leb 128 b) 0 (suc (first_high w))
 
 -- `at` is the place of the first high byte of w, or the length of w if it has none
 pub record First (w : List ℕ) (at : ℕ) : Type 0 where

@@ -1,10 +1,10 @@
 // Whether a word is ASCII, and the place of its first byte that is not.
 ghost use Rattle.std.specs.Prelude.{◌≡◌};
-ghost use Rattle.ascii.specs.High.{isAscii, firstHigh};
+ghost use Rattle.ascii.specs.High.{is_ascii, first_high};
 
 // Whether no byte is 128 or more. Every byte is read, since a loop with one way out is compiled to wide steps.
 pub fn is_ascii(w: &[u8]) -> bool
-    ensures { result ≡ isAscii w.now }
+    ensures { result ≡ is_ascii w.now }
 {
     let mut high = false;
     let mut i = 0;
@@ -17,7 +17,7 @@ pub fn is_ascii(w: &[u8]) -> bool
 
 // The place of the first byte of 128 or more, and the length where there is none.
 pub fn first_high(w: &[u8]) -> usize
-    ensures { result ≡ firstHigh w.now }
+    ensures { result ≡ first_high w.now }
 {
     let mut i = 0;
     while i < w.len() {

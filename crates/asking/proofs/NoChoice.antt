@@ -7,8 +7,8 @@ use Rattle.asking.proofs.limit_of.Reads as limit-of
 use Rattle.asking.proofs.choice_of.Kinds as choice-of-kinds
 use Rattle.asking.proofs.choice_of.Reads as choice-of
 
-pub one-limit : OneResult limit-of-kinds.ps limit-of-kinds.r limit-of.Post
-one-limit κs a x y s t p q = p ∙ sym q
+pub one_limit : OneResult limit-of-kinds.ps limit-of-kinds.r limit-of.Post
+one_limit κs a x y s t p q = p ∙ sym q
 
-pub one-choice-of : OneResult choice-of-kinds.ps choice-of-kinds.r choice-of.Post
-one-choice-of κs a x y s t p q = p ∙ sym q
+pub one_choice_of : OneResult choice-of-kinds.ps choice-of-kinds.r choice-of.Post
+one_choice_of κs a x y s t p q = p ∙ sym q

@@ -6,9 +6,9 @@ use Rattle.chosen.specs.declared.Choice.TheVariants.{Primary, Alternate}
 use Rattle.terms.specs.declared.Limit.TheVariants as limit
 
 -- a host's limit, which counts where there is one
-abbrev pub limitOf : Bool → ℕ → Limit
-limitOf true n = limit.At n
-limitOf false n = limit.Whole
+abbrev pub limit_of : Bool → ℕ → Limit
+limit_of true n = limit.At n
+limit_of false n = limit.Whole
 
 abbrev pub choice_of : Bool → Choice
 choice_of true = Alternate

@@ -1,13 +1,13 @@
 // A host's numbers as a limit and a choice.
 ghost use Rattle.std.specs.Prelude.{◌≡◌};
-ghost use Rattle.asking.specs.Asked.{limitOf, choice_of};
+ghost use Rattle.asking.specs.Asked.{limit_of, choice_of};
 
 use chosen::Choice;
 use terms::Limit;
 
 // `limit` counts where `limited` is true.
 pub fn limit_of(limited: bool, limit: u64) -> Limit
-    ensures { result ≡ limitOf limited limit }
+    ensures { result ≡ limit_of limited limit }
 {
     if limited {
         Limit::At(limit as usize)

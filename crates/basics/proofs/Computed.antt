@@ -18,6 +18,6 @@ answers_at f (suc n) zero h = refl
 answers_at f (suc n) (suc k) h = answers_at (λ j. f (suc j)) n k (omega arith)
 
 -- where `t` holds, `f` answers as `g` does, if antt finds it so at each number below `n`
-pub alike-where : (t f g : ℕ → Bool) (n k : ℕ) → k < n → t k ≡ true → answers (λ j. t j && f j) n ≡ answers (λ j. t j && g j) n → f k ≡ g k
-alike-where t f g n k h y e =
+pub alike_where : (t f g : ℕ → Bool) (n k : ℕ) → k < n → t k ≡ true → answers (λ j. t j && f j) n ≡ answers (λ j. t j && g j) n → f k ≡ g k
+alike_where t f g n k h y e =
     rw y at (sym (answers_at (λ j. t j && f j) n k h) ∙ ap (λ (l : List Bool). get_or l k false) e ∙ answers_at (λ j. t j && g j) n k h)

@@ -9,8 +9,8 @@ use lib.Dec.{leb}
 use lib.ListN.{length, take}
 use lib.Seq.{take_all}
 
-pub take-least : (k : ℕ) (w : List ℕ) → take (min k (length w)) w ≡ take k w
-take-least k w = go (leb k (length w)) refl
+pub take_least : (k : ℕ) (w : List ℕ) → take (min k (length w)) w ≡ take k w
+take_least k w = go (leb k (length w)) refl
   where
     go : (t : Bool) → leb k (length w) ≡ t → take (min k (length w)) w ≡ take k w
     go true h = let e : min k (length w) ≡ k = omega (arith, leb-true k (length w) h) in ap (λ (n : ℕ). take n w) e

@@ -10,14 +10,14 @@ use Rattle.book.proofs.read.Reads as read
 use Rattle.book.proofs.read_in.Kinds as read-in-kinds
 use Rattle.book.proofs.read_in.Reads as read-in
 
-pub one-next : OneResult next-kinds.ps next-kinds.r next.Post
-one-next κs a x y s t p q = p ∙ sym q
+pub one_next : OneResult next-kinds.ps next-kinds.r next.Post
+one_next κs a x y s t p q = p ∙ sym q
 
-pub one-records-from : OneResult records-from-kinds.ps records-from-kinds.r records-from.Post
-one-records-from κs a x y s t p q = p ∙ sym q
+pub one_records_from : OneResult records-from-kinds.ps records-from-kinds.r records-from.Post
+one_records_from κs a x y s t p q = p ∙ sym q
 
-pub one-read : OneResult read-kinds.ps read-kinds.r read.Post
-one-read κs a x y s t p q = p ∙ sym q
+pub one_read : OneResult read-kinds.ps read-kinds.r read.Post
+one_read κs a x y s t p q = p ∙ sym q
 
-pub one-read-in : OneResult read-in-kinds.ps read-in-kinds.r read-in.Post
-one-read-in κs a x y s t p q = p ∙ sym q
+pub one_read_in : OneResult read-in-kinds.ps read-in-kinds.r read-in.Post
+one_read_in κs a x y s t p q = p ∙ sym q

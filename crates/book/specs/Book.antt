@@ -4,41 +4,41 @@ use Rattle.std.specs.Prelude.{ℕ, ◌+◌, cond, List, [], ◌∷◌, ◌++◌,
 pub use Rattle.fields.specs.Got.{Got, good, bad, Both}
 use Rattle.fields.specs.Got.{read_all, write_all}
 pub use Rattle.header.specs.declared.Header.{Header}
-use Rattle.entry.specs.Entry.{Entry, entryBytes, read_entry, above, isLive}
-use Rattle.header.specs.Head.{headerBytes, formats, readHeaderBy}
+use Rattle.entry.specs.Entry.{Entry, entry_bytes, read_entry, above, is_live}
+use Rattle.header.specs.Head.{header_bytes, formats, read_header_by}
 
 pub record Book : Type 0 where
   pub header : Header
   pub records : List Entry
 
 unfoldable pub written : Header → List Entry → List ℕ
-written h es = headerBytes h ++ write_all (entryBytes h.format) es
+written h es = header_bytes h ++ write_all (entry_bytes h.format) es
 
-unfoldable pub readEntries : ℕ → ℕ → List ℕ → Got (List Entry)
-readEntries format floor l = read_all (read_entry format) above floor 0 l
+unfoldable pub read_entries : ℕ → ℕ → List ℕ → Got (List Entry)
+read_entries format floor l = read_all (read_entry format) above floor 0 l
 
 abbrev pub under : Header → ℕ → Got (List Entry) → Got Book
 under h n (good es m) = good (record { header = h; records = es }) (n + m)
 under h n (bad f) = bad f
 
-abbrev pub behindHeader : List ℕ → Got Header → Got Book
-behindHeader l (good h n) = under h n (readEntries h.format 0 (drop n l))
-behindHeader l (bad f) = bad f
+abbrev pub behind_header : List ℕ → Got Header → Got Book
+behind_header l (good h n) = under h n (read_entries h.format 0 (drop n l))
+behind_header l (bad f) = bad f
 
-unfoldable pub readBookBy : (ℕ → ℕ) → List ℕ → Got Book
-readBookBy format l = behindHeader l (readHeaderBy format l)
+unfoldable pub read_book_by : (ℕ → ℕ) → List ℕ → Got Book
+read_book_by format l = behind_header l (read_header_by format l)
 
-abbrev pub readBook : List ℕ → Got Book
-readBook l = readBookBy (formats 1) l
+abbrev pub read_book : List ℕ → Got Book
+read_book l = read_book_by (formats 1) l
 
 abbrev pub live : List Entry → List Entry
 live [] = []
-live (e ∷ es) = cond (isLive e) (e ∷ live es) (live es)
+live (e ∷ es) = cond (is_live e) (e ∷ live es) (live es)
 
-unfoldable pub liveBytes : ℕ → List Entry → List ℕ
-liveBytes format es = write_all (entryBytes format) (live es)
+unfoldable pub live_bytes : ℕ → List Entry → List ℕ
+live_bytes format es = write_all (entry_bytes format) (live es)
 
 -- the least station behind these records
-abbrev pub floorOf : ℕ → List Entry → ℕ
-floorOf floor [] = floor
-floorOf floor (e ∷ es) = floorOf (above e) es
+abbrev pub floor_of : ℕ → List Entry → ℕ
+floor_of floor [] = floor
+floor_of floor (e ∷ es) = floor_of (above e) es

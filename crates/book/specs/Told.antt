@@ -7,16 +7,16 @@ use Rattle.book.specs.declared.Survey.{Survey}
 use Rattle.book.specs.declared.Reading.{Reading}
 use Rattle.book.specs.declared.Measure.{Measure}
 use Rattle.entry.specs.Entry.{Entry, read_entry}
-use Rattle.book.specs.Book.{Book, live, liveBytes, floorOf}
-use Rattle.header.specs.Head.{headerBytes, unknown}
-use Rattle.entry.specs.Told.{stepAt}
+use Rattle.book.specs.Book.{Book, live, live_bytes, floor_of}
+use Rattle.header.specs.Head.{header_bytes, unknown}
+use Rattle.entry.specs.Told.{step_at}
 use Rattle.entry.specs.declared.Step.TheVariants as step
 use Rattle.book.specs.declared.Survey.TheVariants as survey
 use Rattle.book.specs.declared.Reading.TheVariants as whole
 
 -- a cursor at the end of the book, or behind it, has nothing to read
 abbrev pub step_of : List ℕ → ℕ → Cursor → Step
-step_of s format c = cond (ltb c.at (length s)) (stepAt format c.at (read_entry format c.floor (drop c.at s))) step.End
+step_of s format c = cond (ltb c.at (length s)) (step_at format c.at (read_entry format c.floor (drop c.at s))) step.End
 
 abbrev pub next_of : List ℕ → ℕ → ℕ → Cursor → Step
 next_of s format edition c = cond (eqb (unknown format edition) 0) (step_of s format c) (step.Fault (unknown format edition))
@@ -27,9 +27,9 @@ abbrev pub measured : ℕ → Measure → List Entry → Measure
 measured format m es = record {
   count = m.count + length es;
   live = m.live + length (live es);
-  floor = floorOf m.floor es;
-  least = floorOf m.least (live es);
-  size = m.size + length (liveBytes format es);
+  floor = floor_of m.floor es;
+  least = floor_of m.least (live es);
+  size = m.size + length (live_bytes format es);
 }
 
 abbrev pub unmeasured : Measure
@@ -40,9 +40,9 @@ surveyed format m (good es n) = survey.All (measured format m es)
 surveyed format m (bad f) = survey.Fault f
 
 -- where the records begin, and what they measure
-abbrev pub wholeBy : Got Book → Reading
-wholeBy (good b n) = whole.Book b.header (length (headerBytes b.header)) (measured b.header.format unmeasured b.records)
-wholeBy (bad f) = whole.Fault f
+abbrev pub whole_by : Got Book → Reading
+whole_by (good b n) = whole.Book b.header (length (header_bytes b.header)) (measured b.header.format unmeasured b.records)
+whole_by (bad f) = whole.Fault f
 
 -- ---- records that read
 pub record AllGood (x : Got (List Entry)) : Type 0 where

@@ -1,9 +1,9 @@
 // The station key book, read: a record at a cursor, all records to the end, a whole book, and one in the first bytes of lent room.
 ghost use Rattle.std.specs.Prelude.{◌≡◌, drop};
 ghost use Rattle.header.specs.Head.{formats};
-ghost use Rattle.book.specs.Book.{readEntries, readBookBy};
-ghost use Rattle.book.specs.Room.{readInBy};
-ghost use Rattle.book.specs.Told.{next_of, surveyed, unmeasured, wholeBy};
+ghost use Rattle.book.specs.Book.{read_entries, read_book_by};
+ghost use Rattle.book.specs.Room.{read_in_by};
+ghost use Rattle.book.specs.Told.{next_of, surveyed, unmeasured, whole_by};
 
 use entry::Step;
 use header::{Cursor, Header, Opened};
@@ -69,7 +69,7 @@ pub fn next(s: &[u8], format: u32, edition: u32, c: Cursor) -> Step
 
 // Measures all records from a place on.
 pub fn records_from(s: &[u8], from: usize, format: u32) -> Survey
-    ensures { result ≡ surveyed format unmeasured (readEntries format 0 (drop from s.now)) }
+    ensures { result ≡ surveyed format unmeasured (read_entries format 0 (drop from s.now)) }
 {
     let mut at = from;
     let mut count: usize = 0;
@@ -118,7 +118,7 @@ pub fn records_from(s: &[u8], from: usize, format: u32) -> Survey
 
 // Reads a whole book of a format from `least` on.
 pub fn read(s: &[u8], least: u32) -> Reading
-    ensures { result ≡ wholeBy (readBookBy (formats least) s.now) }
+    ensures { result ≡ whole_by (read_book_by (formats least) s.now) }
 {
     let opened = header::open(s, least);
     match opened {
@@ -141,7 +141,7 @@ pub fn read(s: &[u8], least: u32) -> Reading
 
 // Reads the book in the first `len` bytes of the room, of a format from `least` on. A stated length beyond the room is a short book.
 pub fn read_in(room: &[u8], len: usize, least: u32) -> Reading
-    ensures { result ≡ wholeBy (readInBy (formats least) room.now len) }
+    ensures { result ≡ whole_by (read_in_by (formats least) room.now len) }
 {
     let there = slices::least(len, room.len());
     let whole = read(&room[..there], least);

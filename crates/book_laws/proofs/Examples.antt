@@ -3,24 +3,24 @@ use Prim.Native.Nat.{ℕ}
 use mathlib.Core.Path.{◌≡◌, refl}
 use mathlib.Core.List.{List, [], ◌∷◌, ◌++◌}
 use Rattle.fields.specs.Got.{good, bad}
-use Rattle.fields.specs.Field.{number, text, readNumber, readText, readBytes}
+use Rattle.fields.specs.Field.{number, text, read_number, read_text, read_bytes}
 use Rattle.header.specs.declared.Header.{Header}
-use Rattle.entry.specs.Entry.{Entry, recordBytes, kindBytes, entryBytes, readRecord, readKind, read_entry}
-use Rattle.header.specs.Head.{headerBytes, formats, readHeaderBy}
-use Rattle.book.specs.Book.{written, readEntries, readBookBy, readBook}
-use Rattle.closing.specs.Closed.{closed_in, closeLeaves}
-use Rattle.finding.specs.Finding.{kindPlace}
+use Rattle.entry.specs.Entry.{Entry, record_bytes, kind_bytes, entry_bytes, read_record, read_kind, read_entry}
+use Rattle.header.specs.Head.{header_bytes, formats, read_header_by}
+use Rattle.book.specs.Book.{written, read_entries, read_book_by, read_book}
+use Rattle.closing.specs.Closed.{closed_in, close_leaves}
+use Rattle.finding.specs.Finding.{kind_place}
 use Rattle.putting.specs.declared.Made.TheVariants.{Length, Fault}
-use Rattle.putting.specs.Laid.{recordWith, entryWith}
-use Rattle.placing.specs.Placing.{stationFault}
-use Rattle.book.specs.Room.{readInBy, readIn}
-use Rattle.fitting.specs.Base.{addAnswer, addLeaves}
+use Rattle.putting.specs.Laid.{record_with, entry_with}
+use Rattle.placing.specs.Placing.{station_fault}
+use Rattle.book.specs.Room.{read_in_by, read_in}
+use Rattle.fitting.specs.Base.{add_answer, add_leaves}
 
 abbrev head : ℕ → Header
 head format = record { format = format; edition = 2; cut = 0 }
 
 abbrev entry : ℕ → ℕ → List ℕ → Entry
-entry kind station name = record { kind = kind; body = recordWith station name (75 ∷ []) [] }
+entry kind station name = record { kind = kind; body = record_with station name (75 ∷ []) [] }
 
 -- three records: A live, B closed, C live
 abbrev three : List Entry
@@ -30,59 +30,59 @@ abbrev bytes : List ℕ
 bytes = 2 ∷ 2 ∷ 0 ∷ 1 ∷ 3 ∷ 1 ∷ 65 ∷ 1 ∷ 75 ∷ 0 ∷ 0 ∷ 5 ∷ 1 ∷ 66 ∷ 1 ∷ 75 ∷ 0 ∷ 1 ∷ 7 ∷ 1 ∷ 67 ∷ 1 ∷ 75 ∷ 0 ∷ []
 
 -- the kind stands in front, one byte
-is-written : written (head 2) three ≡ bytes
-unfolding written headerBytes entryBytes kindBytes recordBytes number text
-is-written = refl
+is_written : written (head 2) three ≡ bytes
+unfolding written header_bytes entry_bytes kind_bytes record_bytes number text
+is_written = refl
 
-is_read : readBook bytes ≡ good (record { header = head 2; records = three }) 24
-unfolding readBookBy readHeaderBy readEntries read_entry readKind readRecord readNumber readText readBytes
+is_read : read_book bytes ≡ good (record { header = head 2; records = three }) 24
+unfolding read_book_by read_header_by read_entries read_entry read_kind read_record read_number read_text read_bytes
 is_read = refl
 
 -- format 1 spells no kind, and is read as live
-format-1 : readBook (1 ∷ 2 ∷ 0 ∷ 3 ∷ 1 ∷ 65 ∷ 1 ∷ 75 ∷ 0 ∷ []) ≡ good (record { header = head 1; records = entry 1 3 (65 ∷ []) ∷ [] }) 9
-unfolding readBookBy readHeaderBy readEntries read_entry readKind readRecord readNumber readText readBytes
-format-1 = refl
+format_1 : read_book (1 ∷ 2 ∷ 0 ∷ 3 ∷ 1 ∷ 65 ∷ 1 ∷ 75 ∷ 0 ∷ []) ≡ good (record { header = head 1; records = entry 1 3 (65 ∷ []) ∷ [] }) 9
+unfolding read_book_by read_header_by read_entries read_entry read_kind read_record read_number read_text read_bytes
+format_1 = refl
 
 -- a kind above 1 is 7; its form, 5, comes before its value; station order covers both kinds
-kind_2 : readBook (2 ∷ 2 ∷ 0 ∷ 2 ∷ []) ≡ bad 7
-unfolding readBookBy readHeaderBy readEntries read_entry readKind readRecord readNumber readText readBytes
+kind_2 : read_book (2 ∷ 2 ∷ 0 ∷ 2 ∷ []) ≡ bad 7
+unfolding read_book_by read_header_by read_entries read_entry read_kind read_record read_number read_text read_bytes
 kind_2 = refl
 
-kind-form : readBook (2 ∷ 2 ∷ 0 ∷ 129 ∷ 0 ∷ []) ≡ bad 5
-unfolding readBookBy readHeaderBy readEntries read_entry readKind readRecord readNumber readText readBytes
-kind-form = refl
+kind_form : read_book (2 ∷ 2 ∷ 0 ∷ 129 ∷ 0 ∷ []) ≡ bad 5
+unfolding read_book_by read_header_by read_entries read_entry read_kind read_record read_number read_text read_bytes
+kind_form = refl
 
-kind-wide : readBook (2 ∷ 2 ∷ 0 ∷ 129 ∷ 1 ∷ []) ≡ bad 7
-unfolding readBookBy readHeaderBy readEntries read_entry readKind readRecord readNumber readText readBytes
-kind-wide = refl
+kind_wide : read_book (2 ∷ 2 ∷ 0 ∷ 129 ∷ 1 ∷ []) ≡ bad 7
+unfolding read_book_by read_header_by read_entries read_entry read_kind read_record read_number read_text read_bytes
+kind_wide = refl
 
-order-covers-closed : readBook (2 ∷ 2 ∷ 0 ∷ 0 ∷ 5 ∷ 0 ∷ 0 ∷ 0 ∷ 1 ∷ 5 ∷ []) ≡ bad 8
-unfolding readBookBy readHeaderBy readEntries read_entry readKind readRecord readNumber readText readBytes
-order-covers-closed = refl
+order_covers_closed : read_book (2 ∷ 2 ∷ 0 ∷ 0 ∷ 5 ∷ 0 ∷ 0 ∷ 0 ∷ 1 ∷ 5 ∷ []) ≡ bad 8
+unfolding read_book_by read_header_by read_entries read_entry read_kind read_record read_number read_text read_bytes
+order_covers_closed = refl
 
 -- a close: 7 for format 1 before any fault behind it; the byte of 3's kind; 11 for a closed station and for one that is not there, after reading
-close-format-1 : kindPlace 3 (readInBy (formats 2) (1 ∷ 9 ∷ []) 2) ≡ bad 7
-unfolding readInBy readBookBy readHeaderBy readEntries read_entry readKind readRecord readNumber readText readBytes
-close-format-1 = refl
+close_format_1 : kind_place 3 (read_in_by (formats 2) (1 ∷ 9 ∷ []) 2) ≡ bad 7
+unfolding read_in_by read_book_by read_header_by read_entries read_entry read_kind read_record read_number read_text read_bytes
+close_format_1 = refl
 
-close-3 : closeLeaves bytes (kindPlace 3 (readInBy (formats 2) bytes 24)) ≡ written (head 2) (closed_in 3 three)
-unfolding readInBy readBookBy readHeaderBy readEntries read_entry readKind readRecord readNumber readText readBytes written headerBytes entryBytes kindBytes recordBytes number text
-close-3 = refl
+close_3 : close_leaves bytes (kind_place 3 (read_in_by (formats 2) bytes 24)) ≡ written (head 2) (closed_in 3 three)
+unfolding read_in_by read_book_by read_header_by read_entries read_entry read_kind read_record read_number read_text read_bytes written header_bytes entry_bytes kind_bytes record_bytes number text
+close_3 = refl
 
-close-closed : kindPlace 5 (readInBy (formats 2) bytes 24) ≡ bad 11
-unfolding readInBy readBookBy readHeaderBy readEntries read_entry readKind readRecord readNumber readText readBytes headerBytes entryBytes kindBytes recordBytes number text
-close-closed = refl
+close_closed : kind_place 5 (read_in_by (formats 2) bytes 24) ≡ bad 11
+unfolding read_in_by read_book_by read_header_by read_entries read_entry read_kind read_record read_number read_text read_bytes header_bytes entry_bytes kind_bytes record_bytes number text
+close_closed = refl
 
-close-after-reading : kindPlace 5 (readInBy (formats 2) bytes 25) ≡ bad 6
-unfolding readInBy readBookBy readHeaderBy readEntries read_entry readKind readRecord readNumber readText readBytes
-close-after-reading = refl
+close_after_reading : kind_place 5 (read_in_by (formats 2) bytes 25) ≡ bad 6
+unfolding read_in_by read_book_by read_header_by read_entries read_entry read_kind read_record read_number read_text read_bytes
+close_after_reading = refl
 
 -- ---- adding a record of five bytes: station s, no name, no codes
 abbrev fault : ℕ → ℕ → ℕ
-fault s floor = stationFault floor s
+fault s floor = station_fault floor s
 
 abbrev new : ℕ → Header → List ℕ
-new s h = entryBytes h.format (entryWith s [] [] [])
+new s h = entry_bytes h.format (entry_with s [] [] [])
 
 -- A live, B closed: 17 bytes, 10 of them header and A
 abbrev two : List ℕ
@@ -92,37 +92,37 @@ abbrev filler : List ℕ
 filler = 91 ∷ 92 ∷ 93 ∷ 94 ∷ []
 
 -- it fits as the book stands: laid behind it; 8 counts the closed 5
-fits : addLeaves (fault 6) (new 6) (two ++ 0 ∷ filler) 17 (readIn (two ++ 0 ∷ filler) 17) ≡ two ++ 1 ∷ 6 ∷ 0 ∷ 0 ∷ 0 ∷ []
-unfolding readInBy readBookBy readHeaderBy readEntries read_entry readKind readRecord readNumber readText readBytes entryBytes kindBytes recordBytes number text
+fits : add_leaves (fault 6) (new 6) (two ++ 0 ∷ filler) 17 (read_in (two ++ 0 ∷ filler) 17) ≡ two ++ 1 ∷ 6 ∷ 0 ∷ 0 ∷ 0 ∷ []
+unfolding read_in_by read_book_by read_header_by read_entries read_entry read_kind read_record read_number read_text read_bytes entry_bytes kind_bytes record_bytes number text
 fits = refl
 
-fits_8 : addAnswer (fault 4) (new 4) (two ++ 0 ∷ filler) 17 (readIn (two ++ 0 ∷ filler) 17) ≡ Fault 8
-unfolding readInBy readBookBy readHeaderBy readEntries read_entry readKind readRecord readNumber readText readBytes entryBytes kindBytes recordBytes number text
+fits_8 : add_answer (fault 4) (new 4) (two ++ 0 ∷ filler) 17 (read_in (two ++ 0 ∷ filler) 17) ≡ Fault 8
+unfolding read_in_by read_book_by read_header_by read_entries read_entry read_kind read_record read_number read_text read_bytes entry_bytes kind_bytes record_bytes number text
 fits_8 = refl
 
 -- one byte less: closed up first; 8 counts A alone; the bytes behind the new end are as at entry, so the end of B's
-up-answer : addAnswer (fault 4) (new 4) (two ++ filler) 17 (readIn (two ++ filler) 17) ≡ Length 15
-unfolding readInBy readBookBy readHeaderBy readEntries read_entry readKind readRecord readNumber readText readBytes written headerBytes entryBytes kindBytes recordBytes number text
-up-answer = refl
+up_answer : add_answer (fault 4) (new 4) (two ++ filler) 17 (read_in (two ++ filler) 17) ≡ Length 15
+unfolding read_in_by read_book_by read_header_by read_entries read_entry read_kind read_record read_number read_text read_bytes written header_bytes entry_bytes kind_bytes record_bytes number text
+up_answer = refl
 
-up-leaves : addLeaves (fault 4) (new 4) (two ++ filler) 17 (readIn (two ++ filler) 17)
+up_leaves : add_leaves (fault 4) (new 4) (two ++ filler) 17 (read_in (two ++ filler) 17)
     ≡ 2 ∷ 2 ∷ 0 ∷ 1 ∷ 3 ∷ 1 ∷ 65 ∷ 1 ∷ 75 ∷ 0 ∷ 1 ∷ 4 ∷ 0 ∷ 0 ∷ 0 ∷ 75 ∷ 0 ∷ 91 ∷ 92 ∷ 93 ∷ 94 ∷ []
-unfolding readInBy readBookBy readHeaderBy readEntries read_entry readKind readRecord readNumber readText readBytes written headerBytes entryBytes kindBytes recordBytes number text
-up-leaves = refl
+unfolding read_in_by read_book_by read_header_by read_entries read_entry read_kind read_record read_number read_text read_bytes written header_bytes entry_bytes kind_bytes record_bytes number text
+up_leaves = refl
 
-up-8 : addAnswer (fault 3) (new 3) (two ++ filler) 17 (readIn (two ++ filler) 17) ≡ Fault 8
-unfolding readInBy readBookBy readHeaderBy readEntries read_entry readKind readRecord readNumber readText readBytes written headerBytes entryBytes kindBytes recordBytes number text
-up-8 = refl
+up_8 : add_answer (fault 3) (new 3) (two ++ filler) 17 (read_in (two ++ filler) 17) ≡ Fault 8
+unfolding read_in_by read_book_by read_header_by read_entries read_entry read_kind read_record read_number read_text read_bytes written header_bytes entry_bytes kind_bytes record_bytes number text
+up_8 = refl
 
 -- header, live records and the new one do not fit: 9, and nothing has moved
 abbrev one : List ℕ
 one = 2 ∷ 2 ∷ 0 ∷ 1 ∷ 3 ∷ 1 ∷ 65 ∷ 1 ∷ 75 ∷ 0 ∷ []
 
-up-9 : addAnswer (fault 4) (new 4) (one ++ filler) 10 (readIn (one ++ filler) 10) ≡ Fault 9
-unfolding readInBy readBookBy readHeaderBy readEntries read_entry readKind readRecord readNumber readText readBytes written headerBytes entryBytes kindBytes recordBytes number text
-up-9 = refl
+up_9 : add_answer (fault 4) (new 4) (one ++ filler) 10 (read_in (one ++ filler) 10) ≡ Fault 9
+unfolding read_in_by read_book_by read_header_by read_entries read_entry read_kind read_record read_number read_text read_bytes written header_bytes entry_bytes kind_bytes record_bytes number text
+up_9 = refl
 
 -- format 1: as before
-format-1-9 : addAnswer (fault 4) (new 4) (1 ∷ 2 ∷ 0 ∷ 3 ∷ 0 ∷ 0 ∷ 0 ∷ 91 ∷ 92 ∷ 93 ∷ []) 7 (readIn (1 ∷ 2 ∷ 0 ∷ 3 ∷ 0 ∷ 0 ∷ 0 ∷ 91 ∷ 92 ∷ 93 ∷ []) 7) ≡ Fault 9
-unfolding readInBy readBookBy readHeaderBy readEntries read_entry readKind readRecord readNumber readText readBytes written headerBytes entryBytes kindBytes recordBytes number text
-format-1-9 = refl
+format_1_9 : add_answer (fault 4) (new 4) (1 ∷ 2 ∷ 0 ∷ 3 ∷ 0 ∷ 0 ∷ 0 ∷ 91 ∷ 92 ∷ 93 ∷ []) 7 (read_in (1 ∷ 2 ∷ 0 ∷ 3 ∷ 0 ∷ 0 ∷ 0 ∷ 91 ∷ 92 ∷ 93 ∷ []) 7) ≡ Fault 9
+unfolding read_in_by read_book_by read_header_by read_entries read_entry read_kind read_record read_number read_text read_bytes written header_bytes entry_bytes kind_bytes record_bytes number text
+format_1_9 = refl

@@ -10,42 +10,42 @@ use lib.Dec.{ltb, leb, eqb}
 use lib.ListN.{length, take}
 use lib.Seq.{length-take-le, length-sets}
 use Rattle.number.specs.Septets.{Bytes}
-use Rattle.terms.specs.Limits.{wordLimit}
-use Rattle.ascii.specs.High.{firstHigh}
+use Rattle.terms.specs.Limits.{word_limit}
+use Rattle.ascii.specs.High.{first_high}
 use Rattle.fields.specs.Got.{Got, good}
 use Rattle.fields.proofs.Law.{same, bytes_take}
 use Rattle.header.specs.declared.Header.{Header}
 use Rattle.book.specs.declared.Measure.{Measure}
 use Rattle.book.specs.declared.Reading.TheVariants as whole
 use Rattle.entry.specs.Entry.{Entry, above}
-use Rattle.book.specs.Book.{Book, readBook, floorOf}
+use Rattle.book.specs.Book.{Book, read_book, floor_of}
 use Rattle.header.specs.Head.{formats}
-use Rattle.book.specs.Told.{wholeBy}
-use Rattle.book.proofs.Book.{OneBook, one-book}
-use Rattle.book.proofs.Opening.{whole-told}
+use Rattle.book.specs.Told.{whole_by}
+use Rattle.book.proofs.Book.{OneBook, one_book}
+use Rattle.book.proofs.Opening.{whole_told}
 use Rattle.book.specs.declared.End.{End}
 use Rattle.book.specs.declared.Ended.{Ended}
 use Rattle.book.specs.declared.Ended.TheVariants as ended
 use Rattle.putting.specs.declared.Made.{Made}
 use Rattle.putting.specs.declared.Made.TheVariants.{Length, Fault}
 use Rattle.putting.specs.Laid.{placed, left}
-use Rattle.keying.specs.Keyed.{keyed, keyedEntry, newBytes, newFault}
-use Rattle.book.specs.Room.{readInBy, readIn}
-use Rattle.appending.specs.Ended.{end_of, GoodEnd, floorAt, placed_at, behind, Appended, length_of}
-use Rattle.placing.specs.Placing.{floorWhere}
-use Rattle.keying.proofs.Keyed.{Laid, was-laid}
+use Rattle.keying.specs.Keyed.{keyed, keyed_entry, new_bytes, new_fault}
+use Rattle.book.specs.Room.{read_in_by, read_in}
+use Rattle.appending.specs.Ended.{end_of, GoodEnd, floor_at, placed_at, behind, Appended, length_of}
+use Rattle.placing.specs.Placing.{floor_where}
+use Rattle.keying.proofs.Keyed.{Laid, was_laid}
 use Rattle.book.proofs.Room.{Lies, lies}
-use Rattle.appending.proofs.Ends.{no-end-fault, placed_on}
-use Rattle.fitting.specs.Base.{base_of, addBase, addPlaced, addLeft}
+use Rattle.appending.proofs.Ends.{no_end_fault, placed_on}
+use Rattle.fitting.specs.Base.{base_of, add_base, add_placed, add_left}
 use Rattle.adding.specs.Adding.{Added}
-use Rattle.fitting.proofs.Base.{sets_same, by-base}
-use Rattle.book_laws.proofs.Live.{add-one-base}
+use Rattle.fitting.proofs.Base.{sets_same, by_base}
+use Rattle.book_laws.proofs.Live.{add_one_base}
 use Rattle.book_laws.proofs.Grows.{Grown, add_reads}
 
 -- ---- the faults of a new record
 module _ (station : ℕ) (name : List ℕ) where
-  not-nine : (floor : ℕ) → newFault floor station name ≡ 9 → ⊥
-  not-nine floor e = go (ltb wordLimit (length name)) (ltb (firstHigh name) (length name)) (ltb station (2 ^ 28)) (ltb station floor) e
+  not_nine : (floor : ℕ) → new_fault floor station name ≡ 9 → ⊥
+  not_nine floor e = go (ltb word_limit (length name)) (ltb (first_high name) (length name)) (ltb station (2 ^ 28)) (ltb station floor) e
     where
       go : (p q r s : Bool) → ◌≡◌ {A = ℕ} (cond p 1 (cond q 2 (cond r (cond s 8 0) 5))) 9 → ⊥
       go true q r s e = omega arith
@@ -55,8 +55,8 @@ module _ (station : ℕ) (name : List ℕ) where
       go false false true false e = omega arith
 
   -- one that is met under no floor is met under each
-  any-floor : (f : ℕ) → newFault 0 station name ≡ f → (f ≡ 0 → ⊥) → (floor : ℕ) → newFault floor station name ≡ f
-  any-floor f e z floor = go (ltb wordLimit (length name)) (ltb (firstHigh name) (length name)) (ltb station (2 ^ 28)) (ltb station 0) (le-ltb station 0 (omega arith)) (ltb station floor) e
+  any_floor : (f : ℕ) → new_fault 0 station name ≡ f → (f ≡ 0 → ⊥) → (floor : ℕ) → new_fault floor station name ≡ f
+  any_floor f e z floor = go (ltb word_limit (length name)) (ltb (first_high name) (length name)) (ltb station (2 ^ 28)) (ltb station 0) (le-ltb station 0 (omega arith)) (ltb station floor) e
     where
       go : (p q r s : Bool) → s ≡ false → (t : Bool) → cond p 1 (cond q 2 (cond r (cond s 8 0) 5)) ≡ f → cond p 1 (cond q 2 (cond r (cond t 8 0) 5)) ≡ f
       go true q r s d t e = e
@@ -65,99 +65,99 @@ module _ (station : ℕ) (name : List ℕ) where
       go false false true true d t e = let y : ◌≡◌ {A = ℕ} 0 1 = cc in absurd (omega arith)
       go false false true false d t e = absurd (z (sym e))
 
-length-behind : (e : End) (station : ℕ) (m : Made) → length_of (behind e station m) ≡ m
-length-behind e station (Length n) = refl
-length-behind e station (Fault f) = refl
+length_behind : (e : End) (station : ℕ) (m : Made) → length_of (behind e station m) ≡ m
+length_behind e station (Length n) = refl
+length_behind e station (Fault f) = refl
 
-nine-behind : (e : End) (station : ℕ) (m : Made) → behind e station m ≡ ended.Fault 9 → m ≡ Fault 9
-nine-behind e station (Length n) d = let z : ◌≡◌ {A = ℕ} 0 1 = cc in absurd (omega arith)
-nine-behind e station (Fault f) d = let z : f ≡ 9 = cc in ap (λ (k : ℕ). Fault k) z
+nine_behind : (e : End) (station : ℕ) (m : Made) → behind e station m ≡ ended.Fault 9 → m ≡ Fault 9
+nine_behind e station (Length n) d = let z : ◌≡◌ {A = ℕ} 0 1 = cc in absurd (omega arith)
+nine_behind e station (Fault f) d = let z : f ≡ 9 = cc in ap (λ (k : ℕ). Fault k) z
 
 -- ---- GOING ON IS ADDING, but for a 9: then the record does not fit behind the end, and nothing has changed
 pub record GoneOn (room : List ℕ) (e : End) (station : ℕ) (name : List ℕ) (r : Ended) (room' : List ℕ) : Type 0 where
   pub adds : (r ≡ ended.Fault 9 → ⊥) → Added room e.len station name (length_of r) room'
-  pub short : r ≡ ended.Fault 9 → length room < e.len + length (newBytes e.header station name)
+  pub short : r ≡ ended.Fault 9 → length room < e.len + length (new_bytes e.header station name)
   pub kept : r ≡ ended.Fault 9 → room' ≡ room
 
-module _ (room : List ℕ) (bs : Bytes room) (station : ℕ) (name : List ℕ) (len : ℕ) (b : Book) (n : ℕ) (e : readIn room len ≡ good b n) where
+module _ (room : List ℕ) (bs : Bytes room) (station : ℕ) (name : List ℕ) (len : ℕ) (b : Book) (n : ℕ) (e : read_in room len ≡ good b n) where
   abbrev w : List ℕ
-  w = newBytes b.header station name
+  w = new_bytes b.header station name
 
   abbrev fault : ℕ → ℕ
-  fault floor = newFault floor station name
+  fault floor = new_fault floor station name
 
   abbrev new : Header → List ℕ
-  new h = newBytes h station name
+  new h = new_bytes h station name
 
   abbrev end : End
   end = end_of b len
 
   abbrev floor : ℕ
-  floor = floorOf 0 b.records
+  floor = floor_of 0 b.records
 
   there : Lies (formats 1) room len b n
   there = lies (formats 1) room len b n e
 
-  by-this : (t : Bool) → ltb (length room) (len + length w) ≡ t → (m : Made) (room' : List ℕ) → m ≡ addPlaced fault room (base_of t room len b) w
-      → room' ≡ addLeft (addPlaced fault room (base_of t room len b) w) room (base_of t room len b) w → Added room len station name m room'
-  by-this = by-base fault new room len b n e
+  by_this : (t : Bool) → ltb (length room) (len + length w) ≡ t → (m : Made) (room' : List ℕ) → m ≡ add_placed fault room (base_of t room len b) w
+      → room' ≡ add_left (add_placed fault room (base_of t room len b) w) room (base_of t room len b) w → Added room len station name m room'
+  by_this = by_base fault new room len b n e
 
   -- where it fits behind the end
-  fits-is : len + length w ≤ length room → placed_at room end station name ≡ addPlaced fault room (base_of false room len b) w
-  fits-is k =
-      placed_on room end station name (no-end-fault room len b n e)
-      ∙ (λ i. placed (fault (floorWhere (le-leb (len + length w) (length room) k i) b.header.format floor)) (length room) (sym (length-take-le len room there.fits) i) w)
+  fits_is : len + length w ≤ length room → placed_at room end station name ≡ add_placed fault room (base_of false room len b) w
+  fits_is k =
+      placed_on room end station name (no_end_fault room len b n e)
+      ∙ (λ i. placed (fault (floor_where (le-leb (len + length w) (length room) k i) b.header.format floor)) (length room) (sym (length-take-le len room there.fits) i) w)
 
-  left-same : (m : Made) → left m room len w ≡ addLeft m room (base_of false room len b) w
-  left-same (Length j) = sym (sets_same room w len there.fits)
-  left-same (Fault f) = refl
+  left_same : (m : Made) → left m room len w ≡ add_left m room (base_of false room len b) w
+  left_same (Length j) = sym (sets_same room w len there.fits)
+  left_same (Fault f) = refl
 
-  fits-adds : len + length w ≤ length room → (r : Ended) (room' : List ℕ) → Appended room end station name r room' → Added room len station name (length_of r) room'
-  fits-adds k r room' x =
-      by-this false (le-ltb (length room) (len + length w) k) (length_of r) room' (ap length_of x.answer ∙ length-behind end station (placed_at room end station name) ∙ fits-is k)
-      (x.leaves ∙ left-same (placed_at room end station name) ∙ ap (λ (m : Made). addLeft m room (base_of false room len b) w) (fits-is k))
+  fits_adds : len + length w ≤ length room → (r : Ended) (room' : List ℕ) → Appended room end station name r room' → Added room len station name (length_of r) room'
+  fits_adds k r room' x =
+      by_this false (le-ltb (length room) (len + length w) k) (length_of r) room' (ap length_of x.answer ∙ length_behind end station (placed_at room end station name) ∙ fits_is k)
+      (x.leaves ∙ left_same (placed_at room end station name) ∙ ap (λ (m : Made). add_left m room (base_of false room len b) w) (fits_is k))
 
   -- where it does not, a fault before that of the room
-  refused : (f : ℕ) → (f ≡ 0 → ⊥) → (t : Bool) → ltb (length room) (len + length w) ≡ t → fault (floorOf 0 (base_of t room len b).records) ≡ f → Added room len station name (Fault f) room
+  refused : (f : ℕ) → (f ≡ 0 → ⊥) → (t : Bool) → ltb (length room) (len + length w) ≡ t → fault (floor_of 0 (base_of t room len b).records) ≡ f → Added room len station name (Fault f) room
   refused f z t d g =
-      let c : addPlaced fault room (base_of t room len b) w ≡ Fault f =
+      let c : add_placed fault room (base_of t room len b) w ≡ Fault f =
       ap (λ (k : ℕ). placed k (length room) (length (base_of t room len b).front) w) g ∙ ap (λ (j : Bool). cond j (cond (ltb (length room) (length (base_of t room len b).front + length w)) (Fault 9) (Length (length (base_of t room len b).front + length w))) (Fault f)) (ne_eqb f 0 z) in
-      by-this t d (Fault f) room (sym c) (sym (ap (λ (m : Made). addLeft m room (base_of t room len b) w) c))
+      by_this t d (Fault f) room (sym c) (sym (ap (λ (m : Made). add_left m room (base_of t room len b) w) c))
 
-  short-fault : length room < len + length w → (f : ℕ) → (f ≡ 0 → ⊥) → fault (floorWhere false b.header.format floor) ≡ f → Added room len station name (Fault f) room
-  short-fault k f z g = go (eqb b.header.format 1) refl g
+  short_fault : length room < len + length w → (f : ℕ) → (f ≡ 0 → ⊥) → fault (floor_where false b.header.format floor) ≡ f → Added room len station name (Fault f) room
+  short_fault k f z g = go (eqb b.header.format 1) refl g
     where
       go : (t : Bool) → eqb b.header.format 1 ≡ t → fault (cond t floor 0) ≡ f → Added room len station name (Fault f) room
       go true d h =
-          let o : OneBook (formats 1) (take len room) b n = one-book (formats 1) (take len room) (bytes_take len room bs) b n there.reads in
-          refused f z true (lt-ltb (length room) (len + length w) k) (ap (λ x. fault (floorOf 0 x.records)) (add-one-base room len b n o d) ∙ h)
-      go false d h = refused f z true (lt-ltb (length room) (len + length w) k) (any-floor station name f h z (floorOf 0 (base_of true room len b).records))
+          let o : OneBook (formats 1) (take len room) b n = one_book (formats 1) (take len room) (bytes_take len room bs) b n there.reads in
+          refused f z true (lt-ltb (length room) (len + length w) k) (ap (λ x. fault (floor_of 0 x.records)) (add_one_base room len b n o d) ∙ h)
+      go false d h = refused f z true (lt-ltb (length room) (len + length w) k) (any_floor station name f h z (floor_of 0 (base_of true room len b).records))
 
   gone : (r : Ended) (room' : List ℕ) → Appended room end station name r room' → GoneOn room end station name r room'
   gone r room' x = go (leb (len + length w) (length room)) refl
     where
-      on : placed_at room end station name ≡ placed (fault (floorAt room end w)) (length room) len w
-      on = placed_on room end station name (no-end-fault room len b n e)
+      on : placed_at room end station name ≡ placed (fault (floor_at room end w)) (length room) len w
+      on = placed_on room end station name (no_end_fault room len b n e)
 
       -- an answer that is 9 is the placing's
       nine : r ≡ ended.Fault 9 → placed_at room end station name ≡ Fault 9
-      nine c = nine-behind end station (placed_at room end station name) (sym x.answer ∙ c)
+      nine c = nine_behind end station (placed_at room end station name) (sym x.answer ∙ c)
 
       keeps : r ≡ ended.Fault 9 → room' ≡ room
       keeps c = x.leaves ∙ ap (λ (m : Made). left m room len w) (nine c)
 
-      fits-never : len + length w ≤ length room → r ≡ ended.Fault 9 → ⊥
-      fits-never k c = rest (fault (floorAt room end w)) (eqb (fault (floorAt room end w)) 0) refl (ltb (length room) (len + length w)) (le-ltb (length room) (len + length w) k) (sym on ∙ nine c) refl
+      fits_never : len + length w ≤ length room → r ≡ ended.Fault 9 → ⊥
+      fits_never k c = rest (fault (floor_at room end w)) (eqb (fault (floor_at room end w)) 0) refl (ltb (length room) (len + length w)) (le-ltb (length room) (len + length w) k) (sym on ∙ nine c) refl
         where
-          rest : (g : ℕ) (p : Bool) → eqb g 0 ≡ p → (q : Bool) → q ≡ false → cond p (cond q (Fault 9) (Length (len + length w))) (Fault g) ≡ Fault 9 → fault (floorAt room end w) ≡ g → ⊥
+          rest : (g : ℕ) (p : Bool) → eqb g 0 ≡ p → (q : Bool) → q ≡ false → cond p (cond q (Fault 9) (Length (len + length w))) (Fault g) ≡ Fault 9 → fault (floor_at room end w) ≡ g → ⊥
           rest g true d true h y u = let z : ◌≡◌ {A = Bool} true false = h in absurd (let j : ◌≡◌ {A = ℕ} 0 1 = cc in omega arith)
           rest g true d false h y u = let z : ◌≡◌ {A = ℕ} 0 1 = cc in omega arith
-          rest g false d q h y u = let z : g ≡ 9 = cc in not-nine station name (floorAt room end w) (u ∙ z)
+          rest g false d q h y u = let z : g ≡ 9 = cc in not_nine station name (floor_at room end w) (u ∙ z)
 
       not_short : length room < len + length w → leb (len + length w) (length room) ≡ false → (r ≡ ended.Fault 9 → ⊥) → Added room len station name (length_of r) room'
-      not_short k d z = cases (fault (floorAt room end w)) refl (eqb (fault (floorAt room end w)) 0) refl
+      not_short k d z = cases (fault (floor_at room end w)) refl (eqb (fault (floor_at room end w)) 0) refl
         where
-          cases : (f : ℕ) → fault (floorAt room end w) ≡ f → (t : Bool) → eqb f 0 ≡ t → Added room len station name (length_of r) room'
+          cases : (f : ℕ) → fault (floor_at room end w) ≡ f → (t : Bool) → eqb f 0 ≡ t → Added room len station name (length_of r) room'
           cases f g true y =
               let m : placed_at room end station name ≡ Fault 9 =
               on ∙ ap (λ (j : ℕ). placed j (length room) len w) (g ∙ eqb-true f 0 y) ∙ ap (λ (j : Bool). cond j (Fault 9) (Length (len + length w))) (lt-ltb (length room) (len + length w) k) in
@@ -167,82 +167,82 @@ module _ (room : List ℕ) (bs : Bytes room) (station : ℕ) (name : List ℕ) (
               on ∙ ap (λ (j : ℕ). placed j (length room) len w) g ∙ ap (λ (j : Bool). cond j (cond (ltb (length room) (len + length w)) (Fault 9) (Length (len + length w))) (Fault f)) y in
               let a : Fault f ≡ length_of r = sym (ap length_of x.answer ∙ ap (λ (j : Made). length_of (behind end station j)) m) in
               let v : room ≡ room' = sym (x.leaves ∙ ap (λ (j : Made). left j room len w) m) in
-              let u : fault (floorWhere false b.header.format floor) ≡ f = sym (ap (λ (j : Bool). fault (floorWhere j b.header.format floor)) d) ∙ g in
-              let s : Added room len station name (Fault f) room = short-fault k f (λ q. eqb-false f 0 y q) u in
+              let u : fault (floor_where false b.header.format floor) ≡ f = sym (ap (λ (j : Bool). fault (floor_where j b.header.format floor)) d) ∙ g in
+              let s : Added room len station name (Fault f) room = short_fault k f (λ q. eqb-false f 0 y q) u in
               record { answer = sym a ∙ s.answer; leaves = sym v ∙ s.leaves }
 
       go : (t : Bool) → leb (len + length w) (length room) ≡ t → GoneOn room end station name r room'
       go true d = record {
-        adds = λ z. fits-adds (leb-true (len + length w) (length room) d) r room' x;
-        short = λ c. absurd (fits-never (leb-true (len + length w) (length room) d) c);
+        adds = λ z. fits_adds (leb-true (len + length w) (length room) d) r room' x;
+        short = λ c. absurd (fits_never (leb-true (len + length w) (length room) d) c);
         kept = keeps;
       }
       go false d =
           let k : length room < len + length w = leb-false (len + length w) (length room) d in
           record { adds = λ z. not_short k d z; short = λ c. k; kept = keeps }
 
-pub append-adds : (room : List ℕ) → Bytes room → (e : End) (b : Book) → GoodEnd room e b → (station : ℕ) (name : List ℕ) (r : Ended) (room' : List ℕ) → Appended room e station name r room'
+pub append_adds : (room : List ℕ) → Bytes room → (e : End) (b : Book) → GoodEnd room e b → (station : ℕ) (name : List ℕ) (r : Ended) (room' : List ℕ) → Appended room e station name r room'
     → GoneOn room e station name r room'
-append-adds room bs e b x station name r room' y =
+append_adds room bs e b x station name r room' y =
     subst (λ (k : End). GoneOn room k station name r room') (sym x.is) (gone room bs station name e.len b x.n x.reads r room' (subst (λ (k : End). Appended room k station name r room') x.is y))
 
 -- ---- the end of the longer book
 abbrev pub longer : Book → ℕ → List ℕ → Book
-longer b station name = record { header = b.header; records = b.records ++ keyedEntry b.header station name ∷ [] }
+longer b station name = record { header = b.header; records = b.records ++ keyed_entry b.header station name ∷ [] }
 
-floor-more : (floor : ℕ) (es : List Entry) (e : Entry) → floorOf floor (es ++ e ∷ []) ≡ above e
-floor-more floor [] e = refl
-floor-more floor (x ∷ es) e = floor-more (above x) es e
+floor_more : (floor : ℕ) (es : List Entry) (e : Entry) → floor_of floor (es ++ e ∷ []) ≡ above e
+floor_more floor [] e = refl
+floor_more floor (x ∷ es) e = floor_more (above x) es e
 
 record NextEnd (e : End) (station : ℕ) (m : Made) (e' : End) : Type 0 where
   laid : m ≡ Length e'.len
   header : e'.header ≡ e.header
   floor : e'.floor ≡ station + 1
 
-next-end : (e : End) (station : ℕ) (m : Made) (e' : End) → behind e station m ≡ ended.At e' → NextEnd e station m e'
-next-end e station (Fault f) e' p = let z : ◌≡◌ {A = ℕ} 0 1 = cc in absurd (omega arith)
-next-end e station (Length n) e' p =
+next_end : (e : End) (station : ℕ) (m : Made) (e' : End) → behind e station m ≡ ended.At e' → NextEnd e station m e'
+next_end e station (Fault f) e' p = let z : ◌≡◌ {A = ℕ} 0 1 = cc in absurd (omega arith)
+next_end e station (Length n) e' p =
     let q : record { header = e.header; len = n; floor = station + 1 } ≡ e' = cc in
     record { laid = ap (λ (k : End). Length k.len) q; header = ap (λ (k : End). k.header) (sym q); floor = ap (λ (k : End). k.floor) (sym q) }
 
-read_all : (room : List ℕ) (len : ℕ) (x : Got Book) → len ≤ length room → readBook (take len room) ≡ x → readIn room len ≡ x
-unfolding readInBy
+read_all : (room : List ℕ) (len : ℕ) (x : Got Book) → len ≤ length room → read_book (take len room) ≡ x → read_in room len ≡ x
+unfolding read_in_by
 read_all room len x h e = rw (le-ltb (length room) len h) e
 
-on-from : (room : List ℕ) → Bytes room → (station : ℕ) (name : List ℕ) (len : ℕ) (b : Book) (n : ℕ) → readIn room len ≡ good b n → (e' : End) (room' : List ℕ)
+on_from : (room : List ℕ) → Bytes room → (station : ℕ) (name : List ℕ) (len : ℕ) (b : Book) (n : ℕ) → read_in room len ≡ good b n → (e' : End) (room' : List ℕ)
     → Appended room (end_of b len) station name (ended.At e') room' → GoodEnd room' e' (longer b station name)
 unfolding keyed
-on-from room bs station name len b n e e' room' x =
-    let v : List ℕ = newBytes b.header station name in
-    let y : NextEnd (end_of b len) station (placed_at room (end_of b len) station name) e' = next-end (end_of b len) station (placed_at room (end_of b len) station name) e' (sym x.answer) in
-    let f₀ : ℕ = newFault (floorAt room (end_of b len) v) station name in
+on_from room bs station name len b n e e' room' x =
+    let v : List ℕ = new_bytes b.header station name in
+    let y : NextEnd (end_of b len) station (placed_at room (end_of b len) station name) e' = next_end (end_of b len) station (placed_at room (end_of b len) station name) e' (sym x.answer) in
+    let f₀ : ℕ = new_fault (floor_at room (end_of b len) v) station name in
     let k : Laid f₀ (length room) len v e'.len =
-    was-laid f₀ (length room) len v e'.len (sym (placed_on room (end_of b len) station name (no-end-fault room len b n e)) ∙ y.laid) in
-    let g : Grown room len station name e'.len room' = add_reads room bs len station name e'.len room' (fits-adds room bs station name len b n e k.fits (ended.At e') room' x) in
+    was_laid f₀ (length room) len v e'.len (sym (placed_on room (end_of b len) station name (no_end_fault room len b n e)) ∙ y.laid) in
+    let g : Grown room len station name e'.len room' = add_reads room bs len station name e'.len room' (fits_adds room bs station name len b n e k.fits (ended.At e') room' x) in
     let s : g.b ≡ b = same (sym g.before ∙ e) in
-    let q : readBook (take e'.len room') ≡ good (record { header = b.header; records = (addBase room len b v).records ++ keyedEntry b.header station name ∷ [] }) e'.len =
-    subst (λ (c : Book). readBook (take e'.len room') ≡ good (record { header = c.header; records = (addBase room len c (newBytes c.header station name)).records ++ keyedEntry c.header station name ∷ [] }) e'.len) s g.after in
-    let r : readBook (take e'.len room') ≡ good (longer b station name) e'.len =
-    q ∙ ap (λ (t : Bool). good (record { header = b.header; records = (base_of t room len b).records ++ keyedEntry b.header station name ∷ [] }) e'.len) (le-ltb (length room) (len + length v) k.fits) in
+    let q : read_book (take e'.len room') ≡ good (record { header = b.header; records = (add_base room len b v).records ++ keyed_entry b.header station name ∷ [] }) e'.len =
+    subst (λ (c : Book). read_book (take e'.len room') ≡ good (record { header = c.header; records = (add_base room len c (new_bytes c.header station name)).records ++ keyed_entry c.header station name ∷ [] }) e'.len) s g.after in
+    let r : read_book (take e'.len room') ≡ good (longer b station name) e'.len =
+    q ∙ ap (λ (t : Bool). good (record { header = b.header; records = (base_of t room len b).records ++ keyed_entry b.header station name ∷ [] }) e'.len) (le-ltb (length room) (len + length v) k.fits) in
     let d : room' ≡ left (Length e'.len) room len v = x.leaves ∙ ap (λ (j : Made). left j room len v) y.laid in
     let h : e'.len ≤ length room' = omega (arith, k.long, k.fits, ap length d, length-sets room len v) in
-    let f : floorOf 0 (b.records ++ keyedEntry b.header station name ∷ []) ≡ station + 1 = floor-more 0 b.records (keyedEntry b.header station name) in
+    let f : floor_of 0 (b.records ++ keyed_entry b.header station name ∷ []) ≡ station + 1 = floor_more 0 b.records (keyed_entry b.header station name) in
     record {
       n = e'.len;
       reads = read_all room' e'.len _ h r;
       is = λ i. record { header = y.header i; len = e'.len; floor = (y.floor ∙ sym f) i };
     }
 
-pub append-goes-on : (room : List ℕ) → Bytes room → (station : ℕ) (name : List ℕ) (e : End) (b : Book) → GoodEnd room e b → (e' : End) (room' : List ℕ) → Appended room e station name (ended.At e') room'
+pub append_goes_on : (room : List ℕ) → Bytes room → (station : ℕ) (name : List ℕ) (e : End) (b : Book) → GoodEnd room e b → (e' : End) (room' : List ℕ) → Appended room e station name (ended.At e') room'
     → GoodEnd room' e' (longer b station name)
-append-goes-on room bs station name e b x e' room' y =
-    on-from room bs station name e.len b x.n x.reads e' room' (subst (λ (k : End). Appended room k station name (ended.At e') room') x.is y)
+append_goes_on room bs station name e b x e' room' y =
+    on_from room bs station name e.len b x.n x.reads e' room' (subst (λ (k : End). Appended room k station name (ended.At e') room') x.is y)
 
 -- ---- what `read` tells of the bytes in front of a room is the end of a good book
-pub book-end : (room : List ℕ) (len : ℕ) → len ≤ length room → (h : Header) (first : ℕ) (m : Measure) → wholeBy (readBook (take len room)) ≡ whole.Book h first m
+pub book_end : (room : List ℕ) (len : ℕ) → len ≤ length room → (h : Header) (first : ℕ) (m : Measure) → whole_by (read_book (take len room)) ≡ whole.Book h first m
     → (b : Book) × GoodEnd room (record { header = h; len = len; floor = m.floor }) b
-book-end room len k h first m p =
-    let x = whole-told (formats 1) (take len room) h first m p in (
+book_end room len k h first m p =
+    let x = whole_told (formats 1) (take len room) h first m p in (
       x.b,
       record {
         n = x.n;

@@ -3,6 +3,6 @@ use Rattle.std.specs.Prelude.{ℕ, Bool, false, ◌||◌, List, [], ◌∷◌}
 use Rattle.entry.specs.Entry.{Entry}
 use Rattle.finding.specs.Finding.{meant}
 
-abbrev pub hasLive : ℕ → List Entry → Bool
-hasLive station [] = false
-hasLive station (e ∷ es) = meant station e || hasLive station es
+abbrev pub has_live : ℕ → List Entry → Bool
+has_live station [] = false
+has_live station (e ∷ es) = meant station e || has_live station es

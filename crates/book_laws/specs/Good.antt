@@ -1,22 +1,22 @@
 -- What a book may hold, in plain terms. The theorems over it are in proofs/Good.antt.
 use Rattle.std.specs.Prelude.{ℕ, ◌^◌, ◌≤◌, ◌<◌, ◌≡◌, List, [], ◌∷◌, length}
-use Rattle.terms.specs.Limits.{wordLimit}
-use Rattle.ascii.specs.High.{firstHigh}
-use Rattle.terms.specs.Editions.{lastEdition, lastFormat}
+use Rattle.terms.specs.Limits.{word_limit}
+use Rattle.ascii.specs.High.{first_high}
+use Rattle.terms.specs.Editions.{last_edition, last_format}
 use Rattle.header.specs.declared.Header.{Header}
 use Rattle.entry.specs.Entry.{Record, Entry, above}
 
 pub record GoodHeader (h : Header) : Type 0 where
-  pub format : (1 ≤ h.format) × (h.format ≤ lastFormat)
-  pub edition : (1 ≤ h.edition) × (h.edition ≤ lastEdition)
+  pub format : (1 ≤ h.format) × (h.format ≤ last_format)
+  pub edition : (1 ≤ h.edition) × (h.edition ≤ last_edition)
   pub cut : h.cut < 2 ^ 28
 
 -- a record whose station is at least `floor`, with a name that the encoder takes and any codes
 pub record GoodRecord (floor : ℕ) (r : Record) : Type 0 where
   pub rises : floor ≤ r.station
   pub station : r.station < 2 ^ 28
-  pub long : length r.name ≤ wordLimit
-  pub ascii : length r.name ≤ firstHigh r.name
+  pub long : length r.name ≤ word_limit
+  pub ascii : length r.name ≤ first_high r.name
   pub primary : length r.primary < 2 ^ 28
   pub alternate : length r.alternate < 2 ^ 28
 

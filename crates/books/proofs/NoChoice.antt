@@ -17,27 +17,27 @@ use contract.Lifetimes.{Lfts}
 
 -- the book's: the answer at exit is the last, the room the first
 module _ (κs : Lfts 2) (a : Dens κs book-start-kinds.ps) (x y : (res_t book-start-kinds.r κs).Denot) (s t : AtExit (ended_of 2 book-start-kinds.ps book-start-kinds.r) κs) where
-  pub one-start-numbers : book-start.Post κs a x s → book-start.Post κs a y t → s.1.1.1.0.now ≡ t.1.1.1.0.now
-  one-start-numbers p q = p.0 ∙ sym q.0
+  pub one_start_numbers : book-start.Post κs a x s → book-start.Post κs a y t → s.1.1.1.0.now ≡ t.1.1.1.0.now
+  one_start_numbers p q = p.0 ∙ sym q.0
 
-  pub one-start-room : book-start.Post κs a x s → book-start.Post κs a y t → s.0.now ≡ t.0.now
-  one-start-room p q = p.1 ∙ sym q.1
+  pub one_start_room : book-start.Post κs a x s → book-start.Post κs a y t → s.0.now ≡ t.0.now
+  one_start_room p q = p.1 ∙ sym q.1
 
 module _ (κs : Lfts 2) (a : Dens κs book-open-kinds.ps) (x y : (res_t book-open-kinds.r κs).Denot) (s t : AtExit (ended_of 2 book-open-kinds.ps book-open-kinds.r) κs) where
-  pub one-open-numbers : book-open.Post κs a x s → book-open.Post κs a y t → s.1.0.now ≡ t.1.0.now
-  one-open-numbers p q = p ∙ sym q
+  pub one_open_numbers : book-open.Post κs a x s → book-open.Post κs a y t → s.1.0.now ≡ t.1.0.now
+  one_open_numbers p q = p ∙ sym q
 
 module _ (κs : Lfts 2) (a : Dens κs book-next-kinds.ps) (x y : (res_t book-next-kinds.r κs).Denot) (s t : AtExit (ended_of 2 book-next-kinds.ps book-next-kinds.r) κs) where
-  pub one-next-numbers : book-next.Post κs a x s → book-next.Post κs a y t → s.1.1.1.1.1.0.now ≡ t.1.1.1.1.1.0.now
-  one-next-numbers p q = p ∙ sym q
+  pub one_next_numbers : book-next.Post κs a x s → book-next.Post κs a y t → s.1.1.1.1.1.0.now ≡ t.1.1.1.1.1.0.now
+  one_next_numbers p q = p ∙ sym q
 
 module _ (κs : Lfts 2) (a : Dens κs book-read-kinds.ps) (x y : (res_t book-read-kinds.r κs).Denot) (s t : AtExit (ended_of 2 book-read-kinds.ps book-read-kinds.r) κs) where
-  pub one-read-numbers : book-read.Post κs a x s → book-read.Post κs a y t → s.1.0.now ≡ t.1.0.now
-  one-read-numbers p q = p ∙ sym q
+  pub one_read_numbers : book-read.Post κs a x s → book-read.Post κs a y t → s.1.0.now ≡ t.1.0.now
+  one_read_numbers p q = p ∙ sym q
 
 module _ (κs : Lfts 2) (a : Dens κs book-close-kinds.ps) (x y : (res_t book-close-kinds.r κs).Denot) (s t : AtExit (ended_of 2 book-close-kinds.ps book-close-kinds.r) κs) where
-  pub one-close-numbers : book-close.Post κs a x s → book-close.Post κs a y t → s.1.1.1.0.now ≡ t.1.1.1.0.now
-  one-close-numbers p q = p.0 ∙ sym q.0
+  pub one_close_numbers : book-close.Post κs a x s → book-close.Post κs a y t → s.1.1.1.0.now ≡ t.1.1.1.0.now
+  one_close_numbers p q = p.0 ∙ sym q.0
 
-  pub one-close-room : book-close.Post κs a x s → book-close.Post κs a y t → s.0.now ≡ t.0.now
-  one-close-room p q = p.1 ∙ sym q.1
+  pub one_close_room : book-close.Post κs a x s → book-close.Post κs a y t → s.0.now ≡ t.0.now
+  one_close_room p q = p.1 ∙ sym q.1

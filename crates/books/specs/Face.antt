@@ -2,5 +2,5 @@
 use Rattle.std.specs.Prelude.{ℕ}
 use Rattle.header.specs.declared.Cursor.{Cursor}
 
-abbrev pub cursorOf : ℕ → ℕ → Cursor
-cursorOf place floor = record { at = place; floor = floor }
+abbrev pub cursor_of : ℕ → ℕ → Cursor
+cursor_of place floor = record { at = place; floor = floor }

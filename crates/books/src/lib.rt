@@ -1,17 +1,17 @@
 // The C face of the station key book, for what does not encode: a book is started, opened, read, and a station is closed. On numbers and slices of
 // numbers only; each answer begins with 0 or the refusal's number, and under a refusal the rest are 0.
 ghost use Rattle.std.specs.Prelude.{◌≡◌, length};
-ghost use Rattle.header.specs.Head.{formats, readHeader, headerBytes, openedBy, cut_of};
-ghost use Rattle.book.specs.Book.{readBook};
-ghost use Rattle.book.specs.Room.{readInBy};
-ghost use Rattle.book.specs.Told.{next_of, wholeBy};
+ghost use Rattle.header.specs.Head.{formats, read_header, header_bytes, opened_by, cut_of};
+ghost use Rattle.book.specs.Book.{read_book};
+ghost use Rattle.book.specs.Room.{read_in_by};
+ghost use Rattle.book.specs.Told.{next_of, whole_by};
 ghost use Rattle.putting.specs.Laid.{placed, left};
-ghost use Rattle.starting.specs.New.{cutFault, newHeader};
-ghost use Rattle.closing.specs.Closed.{closeAnswer, closeLeaves};
-ghost use Rattle.finding.specs.Finding.{kindPlace};
-ghost use Rattle.asking.specs.Asked.{limitOf};
-ghost use Rattle.telling_books.specs.Numbers.{madeNumbers, openedNumbers, stepNumbers, wholeNumbers};
-ghost use Rattle.books.specs.Face.{cursorOf};
+ghost use Rattle.starting.specs.New.{cut_fault, new_header};
+ghost use Rattle.closing.specs.Closed.{close_answer, close_leaves};
+ghost use Rattle.finding.specs.Finding.{kind_place};
+ghost use Rattle.asking.specs.Asked.{limit_of};
+ghost use Rattle.telling_books.specs.Numbers.{made_numbers, opened_numbers, step_numbers, whole_numbers};
+ghost use Rattle.books.specs.Face.{cursor_of};
 
 use asking::limit_of;
 use header::Cursor;
@@ -24,8 +24,8 @@ pub extern "C" fn simmerquilt_book_start(
     limit: u64,
     out: &mut [u64; 2],
 )
-    ensures told { out.new ≡ madeNumbers (placed (cutFault (cut_of (limitOf limited limit))) (length room.old) 0 (headerBytes (newHeader (cut_of (limitOf limited limit))))) }
-    ensures room { room.new ≡ left (placed (cutFault (cut_of (limitOf limited limit))) (length room.old) 0 (headerBytes (newHeader (cut_of (limitOf limited limit))))) room.old 0 (headerBytes (newHeader (cut_of (limitOf limited limit)))) }
+    ensures told { out.new ≡ made_numbers (placed (cut_fault (cut_of (limit_of limited limit))) (length room.old) 0 (header_bytes (new_header (cut_of (limit_of limited limit))))) }
+    ensures room { room.new ≡ left (placed (cut_fault (cut_of (limit_of limited limit))) (length room.old) 0 (header_bytes (new_header (cut_of (limit_of limited limit))))) room.old 0 (header_bytes (new_header (cut_of (limit_of limited limit)))) }
 {
     let made = starting::start(room, limit_of(limited, limit));
     telling_books::tell_made(made, out);
@@ -34,7 +34,7 @@ pub extern "C" fn simmerquilt_book_start(
 // Reads a header; `out` is number, format, edition, cut, and the cursor's place and floor.
 #[unsafe(no_mangle)]
 pub extern "C" fn simmerquilt_book_open(book: &[u8], out: &mut [u64; 6])
-    ensures { out.new ≡ openedNumbers (openedBy (readHeader book.now)) }
+    ensures { out.new ≡ opened_numbers (opened_by (read_header book.now)) }
 {
     let opened = header::open(book, 1);
     telling_books::tell_opened(opened, out);
@@ -51,7 +51,7 @@ pub extern "C" fn simmerquilt_book_next(
     floor: u32,
     out: &mut [u64; 12],
 )
-    ensures { out.new ≡ stepNumbers (next_of book.now format edition (cursorOf place floor)) }
+    ensures { out.new ≡ step_numbers (next_of book.now format edition (cursor_of place floor)) }
 {
     let step = book::next(
         book,
@@ -68,7 +68,7 @@ pub extern "C" fn simmerquilt_book_next(
 // Reads a whole book; `out` is number, format, edition, cut, records, the least station of a further record, and how many records are live.
 #[unsafe(no_mangle)]
 pub extern "C" fn simmerquilt_book_read(book: &[u8], out: &mut [u64; 7])
-    ensures { out.new ≡ wholeNumbers (wholeBy (readBook book.now)) }
+    ensures { out.new ≡ whole_numbers (whole_by (read_book book.now)) }
 {
     let whole = book::read(book, 1);
     telling_books::tell_whole(whole, out);
@@ -82,8 +82,8 @@ pub extern "C" fn simmerquilt_book_close(
     station: u64,
     out: &mut [u64; 2],
 )
-    ensures told { out.new ≡ madeNumbers (closeAnswer «length» (kindPlace station (readInBy (formats 2) room.old «length»))) }
-    ensures room { room.new ≡ closeLeaves room.old (kindPlace station (readInBy (formats 2) room.old «length»)) }
+    ensures told { out.new ≡ made_numbers (close_answer «length» (kind_place station (read_in_by (formats 2) room.old «length»))) }
+    ensures room { room.new ≡ close_leaves room.old (kind_place station (read_in_by (formats 2) room.old «length»)) }
 {
     let made = closing::close(room, length as usize, station);
     telling_books::tell_made(made, out);

@@ -10,13 +10,13 @@ use Rattle.byte.specs.Text.{up, upper}
 use Rattle.basics.proofs.Tests.{both}
 
 -- a small letter has a capital 32 below it
-pub small-letter : (b : ℕ) → (leb 97 b && leb b 122) ≡ true → 97 ≤ b
-small-letter b e = leb-true 97 b (both (leb 97 b) (leb b 122) e).0
+pub small_letter : (b : ℕ) → (leb 97 b && leb b 122) ≡ true → 97 ≤ b
+small_letter b e = leb-true 97 b (both (leb 97 b) (leb b 122) e).0
 
-pub length-upper : (w : List ℕ) → length (upper w) ≡ length w
+pub length_upper : (w : List ℕ) → length (upper w) ≡ length w
 unfolding upper
-length-upper w = length-map w up
+length_upper w = length-map w up
 
-pub getD-upper : (w : List ℕ) (i : ℕ) → get_or (upper w) i 0 ≡ up (get_or w i 0)
+pub get_d_upper : (w : List ℕ) (i : ℕ) → get_or (upper w) i 0 ≡ up (get_or w i 0)
 unfolding upper up
-getD-upper w i = get_or-map up w i 0
+get_d_upper w i = get_or-map up w i 0

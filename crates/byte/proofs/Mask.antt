@@ -9,9 +9,9 @@ use lib.Dec.{eqb}
 abbrev pub in_row : ℕ → ℕ → ℕ → Bool
 in_row high row b = eqb (bit_and b high) row
 
-abbrev pub offRow : ℕ → ℕ → ℕ → Bool
-offRow high row b = not (in_row high row b)
+abbrev pub off_row : ℕ → ℕ → ℕ → Bool
+off_row high row b = not (in_row high row b)
 
 -- the mask `m` has the bit that the low five bits of `b` name
-abbrev pub hasLetter : ℕ → ℕ → Bool
-hasLetter m b = eqb (bit_and (m / 2 ^ bit_and b 31) 1) 1
+abbrev pub has_letter : ℕ → ℕ → Bool
+has_letter m b = eqb (bit_and (m / 2 ^ bit_and b 31) 1) 1

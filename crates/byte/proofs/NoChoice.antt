@@ -6,8 +6,8 @@ use Rattle.byte.proofs.capital.Reads as capital
 use Rattle.byte.proofs.is_vowel.Kinds as is-vowel-kinds
 use Rattle.byte.proofs.is_vowel.Reads as is-vowel
 
-pub one-capital : OneResult capital-kinds.ps capital-kinds.r capital.Post
-one-capital κs a x y s t p q = p ∙ sym q
+pub one_capital : OneResult capital-kinds.ps capital-kinds.r capital.Post
+one_capital κs a x y s t p q = p ∙ sym q
 
-pub one-is-vowel : OneResult is-vowel-kinds.ps is-vowel-kinds.r is-vowel.Post
-one-is-vowel κs a x y s t p q = p ∙ sym q
+pub one_is_vowel : OneResult is-vowel-kinds.ps is-vowel-kinds.r is-vowel.Post
+one_is_vowel κs a x y s t p q = p ∙ sym q

@@ -1,5 +1,5 @@
 -- Bytes, texts and letter case: "Letters a to z count as A to Z" (document 01, "Preparing the word"). Each byte is read by
--- itself, so no place moves (`length-upper`, `getD-upper` in proofs/Case.antt).
+-- itself, so no place moves (`length_upper`, `get_d_upper` in proofs/Case.antt).
 use Rattle.std.specs.Prelude.{ℕ, ◌-◌, cond, ◌&&◌, List, [], ◌∷◌, map, leb}
 use Prim.Native.Char.{code}
 use Prim.Native.String.{String}

@@ -8,5 +8,5 @@ use Rattle.chosen.proofs.chosen.Reads as chosen
 use contract.Lifetimes.{Lfts}
 
 module _ (κs : Lfts 1) (a : Dens κs chosen-kinds.ps) (x y : (res_t chosen-kinds.r κs).Denot) (s t : AtExit (ended_of 1 chosen-kinds.ps chosen-kinds.r) κs) where
-  pub one-chosen : chosen.Post κs a x s → chosen.Post κs a y t → x.now ≡ y.now
-  one-chosen p q = p ∙ sym q
+  pub one_chosen : chosen.Post κs a x s → chosen.Post κs a y t → x.now ≡ y.now
+  one_chosen p q = p ∙ sym q

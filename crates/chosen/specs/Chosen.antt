@@ -5,10 +5,10 @@ use Rattle.chosen.specs.declared.Choice.{Choice}
 use Rattle.chosen.specs.declared.Choice.TheVariants.{Primary, Alternate}
 
 -- the first n bytes of a buffer, and none where it has fewer
-abbrev pub frontOf : ℕ → List ℕ → List ℕ
-frontOf n buf = cond (leb n (length buf)) (take n buf) []
+abbrev pub front_of : ℕ → List ℕ → List ℕ
+front_of n buf = cond (leb n (length buf)) (take n buf) []
 
 -- of a primary buffer p with a code of np bytes and an alternate one a with na
 abbrev pub chosen_of : Choice → List ℕ → ℕ → List ℕ → ℕ → List ℕ
-chosen_of Primary p np a na = frontOf np p
-chosen_of Alternate p np a na = frontOf na a
+chosen_of Primary p np a na = front_of np p
+chosen_of Alternate p np a na = front_of na a

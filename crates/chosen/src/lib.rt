@@ -1,6 +1,6 @@
 // The chosen code, as a part of the buffer it lies in.
 ghost use Rattle.std.specs.Prelude.{◌≡◌};
-ghost use Rattle.chosen.specs.Chosen.{frontOf, chosen_of};
+ghost use Rattle.chosen.specs.Chosen.{front_of, chosen_of};
 
 #[derive(Drop)]
 pub enum Choice {
@@ -10,7 +10,7 @@ pub enum Choice {
 
 // The first n bytes of a buffer, and none where it has fewer.
 fn front_of(buf: &[u8], n: usize) -> &[u8]
-    ensures { result.now ≡ frontOf n buf.now }
+    ensures { result.now ≡ front_of n buf.now }
 {
     if n <= buf.len() { &buf[..n] } else { &buf[..0] }
 }

@@ -8,62 +8,62 @@ use Rattle.fields.specs.Got.{Got, good, bad}
 use Rattle.header.specs.declared.Header.{Header}
 use Rattle.book.specs.declared.Measure.{Measure}
 use Rattle.entry.specs.Entry.{Entry}
-use Rattle.book.specs.Book.{Book, readEntries}
-use Rattle.header.specs.Head.{headerBytes, formats}
-use Rattle.book.specs.Told.{wholeBy, AllGood}
-use Rattle.book.proofs.Opening.{whole-told, whole-fault}
+use Rattle.book.specs.Book.{Book, read_entries}
+use Rattle.header.specs.Head.{header_bytes, formats}
+use Rattle.book.specs.Told.{whole_by, AllGood}
+use Rattle.book.proofs.Opening.{whole_told, whole_fault}
 use Rattle.putting.specs.declared.Made.TheVariants.{Length, Fault}
-use Rattle.book.specs.Room.{readInBy}
+use Rattle.book.specs.Room.{read_in_by}
 use Rattle.finding.specs.declared.Place.{Place}
-use Rattle.finding.specs.Finding.{kindPlace, placeTold, soughtBy, Sought}
-use Rattle.closing.specs.Closed.{closeAnswer, closeLeaves, Closed}
+use Rattle.finding.specs.Finding.{kind_place, place_told, sought_by, Sought}
+use Rattle.closing.specs.Closed.{close_answer, close_leaves, Closed}
 use Rattle.book.proofs.Room.{Inside, inside}
 use Rattle.book.specs.declared.Reading.TheVariants as whole
 use Rattle.finding.specs.declared.Place.TheVariants as place
 
 module _ (room : List ℕ) (len station : ℕ) where
-  closed-not : (f : ℕ) → kindPlace station (readInBy (formats 2) room len) ≡ bad f → Closed room len station (Fault f) room
-  closed-not f e = record { answer = sym (ap (closeAnswer len) e); leaves = sym (ap (closeLeaves room) e) }
+  closed_not : (f : ℕ) → kind_place station (read_in_by (formats 2) room len) ≡ bad f → Closed room len station (Fault f) room
+  closed_not f e = record { answer = sym (ap (close_answer len) e); leaves = sym (ap (close_leaves room) e) }
 
-  pub close-unread : (f : ℕ) → wholeBy (readInBy (formats 2) room len) ≡ whole.Fault f → Closed room len station (Fault f) room
-  close-unread f e = closed-not f (ap (kindPlace station) (whole-fault f (readInBy (formats 2) room len) e))
+  pub close_unread : (f : ℕ) → whole_by (read_in_by (formats 2) room len) ≡ whole.Fault f → Closed room len station (Fault f) room
+  close_unread f e = closed_not f (ap (kind_place station) (whole_fault f (read_in_by (formats 2) room len) e))
 
-  module _ (h : Header) (first : ℕ) (m : Measure) (e : wholeBy (readInBy (formats 2) room len) ≡ whole.Book h first m) where
+  module _ (h : Header) (first : ℕ) (m : Measure) (e : whole_by (read_in_by (formats 2) room len) ≡ whole.Book h first m) where
     abbrev J : ℕ → ℕ
     J = formats 2
 
     there : Inside J room len (whole.Book h first m)
     there = inside J room len h first m e
 
-    pub close-fits : len ≤ length room
-    close-fits = there.fits
+    pub close_fits : len ≤ length room
+    close_fits = there.fits
 
-    pub good-entries : AllGood (readEntries h.format 0 (drop first (take len room)))
-    good-entries =
-        let x = whole-told J (take len room) h first m there.told in
-        record { es = x.b.records; n = x.used; is = (λ i. readEntries (sym x.header i).format 0 (drop (x.first i) (take len room))) ∙ x.records }
+    pub good_entries : AllGood (read_entries h.format 0 (drop first (take len room)))
+    good_entries =
+        let x = whole_told J (take len room) h first m there.told in
+        record { es = x.b.records; n = x.used; is = (λ i. read_entries (sym x.header i).format 0 (drop (x.first i) (take len room))) ∙ x.records }
 
-    place_is : (r : Place) → Sought (take len room) h.format station first r → r ≡ placeTold (kindPlace station (readInBy J room len))
+    place_is : (r : Place) → Sought (take len room) h.format station first r → r ≡ place_told (kind_place station (read_in_by J room len))
     place_is r q =
-        let x = whole-told J (take len room) h first m there.told in
+        let x = whole_told J (take len room) h first m there.told in
         let b : Book = x.b in
         q.answer
-        ∙ (λ i. placeTold (soughtBy (sym x.header i).format station (x.first i) (readEntries (sym x.header i).format 0 (drop (x.first i) (take len room)))))
-        ∙ ap (λ (y : Got (List Entry)). placeTold (soughtBy b.header.format station (length (headerBytes b.header)) y)) x.records
-        ∙ sym (ap (λ (y : Got Book). placeTold (kindPlace station y)) (there.same ∙ x.is))
+        ∙ (λ i. place_told (sought_by (sym x.header i).format station (x.first i) (read_entries (sym x.header i).format 0 (drop (x.first i) (take len room)))))
+        ∙ ap (λ (y : Got (List Entry)). place_told (sought_by b.header.format station (length (header_bytes b.header)) y)) x.records
+        ∙ sym (ap (λ (y : Got Book). place_told (kind_place station y)) (there.same ∙ x.is))
 
     pub close_at : (p : ℕ) (r : Place) → Sought (take len room) h.format station first r → r ≡ place.At p → Closed room len station (Length len) (set room p 0)
-    close_at p r q d = go (kindPlace station (readInBy J room len)) refl (sym d ∙ place_is r q)
+    close_at p r q d = go (kind_place station (read_in_by J room len)) refl (sym d ∙ place_is r q)
       where
-        go : (y : Got ℕ) → kindPlace station (readInBy J room len) ≡ y → place.At p ≡ placeTold y → Closed room len station (Length len) (set room p 0)
+        go : (y : Got ℕ) → kind_place station (read_in_by J room len) ≡ y → place.At p ≡ place_told y → Closed room len station (Length len) (set room p 0)
         go (bad f) c k = let z : ◌≡◌ {A = ℕ} 0 1 = cc in absurd (omega arith)
         go (good j n) c k =
             let u : p ≡ j = cc in
-            record { answer = sym (ap (closeAnswer len) c); leaves = ap (λ (i : ℕ). set room i 0) u ∙ sym (ap (closeLeaves room) c) }
+            record { answer = sym (ap (close_answer len) c); leaves = ap (λ (i : ℕ). set room i 0) u ∙ sym (ap (close_leaves room) c) }
 
-    pub close-none : (f : ℕ) (r : Place) → Sought (take len room) h.format station first r → r ≡ place.Fault f → Closed room len station (Fault f) room
-    close-none f r q d = go (kindPlace station (readInBy J room len)) refl (sym d ∙ place_is r q)
+    pub close_none : (f : ℕ) (r : Place) → Sought (take len room) h.format station first r → r ≡ place.Fault f → Closed room len station (Fault f) room
+    close_none f r q d = go (kind_place station (read_in_by J room len)) refl (sym d ∙ place_is r q)
       where
-        go : (y : Got ℕ) → kindPlace station (readInBy J room len) ≡ y → place.Fault f ≡ placeTold y → Closed room len station (Fault f) room
+        go : (y : Got ℕ) → kind_place station (read_in_by J room len) ≡ y → place.Fault f ≡ place_told y → Closed room len station (Fault f) room
         go (good j n) c k = let z : ◌≡◌ {A = ℕ} 0 1 = cc in absurd (omega arith)
-        go (bad g) c k = let u : g ≡ f = cc in closed-not f (c ∙ ap (λ (i : ℕ). bad i) u)
+        go (bad g) c k = let u : g ≡ f = cc in closed_not f (c ∙ ap (λ (i : ℕ). bad i) u)

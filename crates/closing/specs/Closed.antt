@@ -5,9 +5,9 @@ use Rattle.fields.specs.Got.{Got, good, bad}
 use Rattle.header.specs.Head.{formats}
 use Rattle.putting.specs.declared.Made.{Made}
 use Rattle.putting.specs.declared.Made.TheVariants.{Length, Fault}
-use Rattle.book.specs.Room.{readInBy}
+use Rattle.book.specs.Room.{read_in_by}
 use Rattle.entry.specs.Entry.{Entry}
-use Rattle.finding.specs.Finding.{meant, kindPlace}
+use Rattle.finding.specs.Finding.{meant, kind_place}
 
 -- a record closed, and records with the live one of a station closed
 abbrev pub closed : Entry → Entry
@@ -17,14 +17,14 @@ abbrev pub closed_in : ℕ → List Entry → List Entry
 closed_in station [] = []
 closed_in station (e ∷ es) = cond (meant station e) (closed e ∷ es) (e ∷ closed_in station es)
 
-abbrev pub closeAnswer : ℕ → Got ℕ → Made
-closeAnswer len (good p n) = Length len
-closeAnswer len (bad f) = Fault f
+abbrev pub close_answer : ℕ → Got ℕ → Made
+close_answer len (good p n) = Length len
+close_answer len (bad f) = Fault f
 
-abbrev pub closeLeaves : List ℕ → Got ℕ → List ℕ
-closeLeaves room (good p n) = set room p 0
-closeLeaves room (bad f) = room
+abbrev pub close_leaves : List ℕ → Got ℕ → List ℕ
+close_leaves room (good p n) = set room p 0
+close_leaves room (bad f) = room
 
 pub record Closed (room : List ℕ) (len station : ℕ) (r : Made) (room' : List ℕ) : Type 0 where
-  pub answer : r ≡ closeAnswer len (kindPlace station (readInBy (formats 2) room len))
-  pub leaves : room' ≡ closeLeaves room (kindPlace station (readInBy (formats 2) room len))
+  pub answer : r ≡ close_answer len (kind_place station (read_in_by (formats 2) room len))
+  pub leaves : room' ≡ close_leaves room (kind_place station (read_in_by (formats 2) room len))

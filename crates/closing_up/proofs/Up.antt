@@ -9,29 +9,29 @@ use Rattle.number.specs.Septets.{Bytes}
 use Rattle.slices.specs.declared.Span.{Span}
 use Rattle.fields.specs.Got.{Got, good, bad}
 use Rattle.fields.specs.Put.{Put}
-use Rattle.basics.proofs.Sets.{sets-append}
+use Rattle.basics.proofs.Sets.{sets_append}
 use Rattle.fields.proofs.Law.{bytes_drop, bytes_take}
 use Rattle.header.specs.declared.Cursor.{Cursor}
-use Rattle.entry.specs.Entry.{Entry, entryBytes, read_entry, above}
-use Rattle.book.specs.Book.{readEntries, liveBytes}
-use Rattle.entry.specs.Told.{stepAt}
-use Rattle.entry.proofs.Entry.{entry-law, some-entry}
-use Rattle.entry.proofs.Kind.{step-told, step-fault}
-use Rattle.book.proofs.Entries.{behind, first_good, none-behind}
-use Rattle.book.proofs.Measured.{live-kept, live-passed, none-live}
+use Rattle.entry.specs.Entry.{Entry, entry_bytes, read_entry, above}
+use Rattle.book.specs.Book.{read_entries, live_bytes}
+use Rattle.entry.specs.Told.{step_at}
+use Rattle.entry.proofs.Entry.{entry_law, some_entry}
+use Rattle.entry.proofs.Kind.{step_told, step_fault}
+use Rattle.book.proofs.Entries.{behind, first_good, none_behind}
+use Rattle.book.proofs.Measured.{live_kept, live_passed, none_live}
 use Rattle.book.specs.Told.{AllGood}
-use Rattle.closing_up.specs.Up.{entriesIn, live_of}
+use Rattle.closing_up.specs.Up.{entries_in, live_of}
 use Rattle.entry.specs.declared.Step.TheVariants as step
 
 -- ---- parts of lists
-pub drop-take : (k len : ℕ) (l : List ℕ) → k ≤ len → len ≤ length l → drop k (take len l) ≡ take (len - k) (drop k l)
-drop-take k len l h j =
+pub drop_take : (k len : ℕ) (l : List ℕ) → k ≤ len → len ≤ length l → drop k (take len l) ≡ take (len - k) (drop k l)
+drop_take k len l h j =
     let e : len ≡ k + (len - k) = omega arith in
     ap (λ (m : ℕ). drop k (take m l)) e ∙ ap (drop k) (take-add k (len - k) l) ∙ drop_at (take k l) (take (len - k) (drop k l)) k (length-take-le k l (omega arith))
 
-pub drop-sets : (vs l : List ℕ) (i k : ℕ) → i + length vs ≤ k → drop k (sets l i vs) ≡ drop k l
-drop-sets [] l i k h = refl
-drop-sets (v ∷ vs) l i k h = drop-sets vs (set l i v) (suc i) k (omega arith) ∙ drop-set-lt k l i v (omega arith)
+pub drop_sets : (vs l : List ℕ) (i k : ℕ) → i + length vs ≤ k → drop k (sets l i vs) ≡ drop k l
+drop_sets [] l i k h = refl
+drop_sets (v ∷ vs) l i k h = drop_sets vs (set l i v) (suc i) k (omega arith) ∙ drop-set-lt k l i v (omega arith)
 
 -- ---- CLOSING UP: how far it has come. `room` is what is held. What is still to be read is as it was; storing what is left of the live entries gives what storing all
 -- of them gives.
@@ -42,12 +42,12 @@ pub record Upto (room₀ : List ℕ) (len format from : ℕ) (room : List ℕ) (
   pub ahead : drop at room ≡ drop at room₀
   pub es : List Entry
   pub n : ℕ
-  pub reads : readEntries format floor (drop at (take len room₀)) ≡ good es n
-  pub stored : sets room to (liveBytes format es) ≡ sets room₀ from (live_of format (entriesIn format room₀ len from))
-  pub sum : to + length (liveBytes format es) ≡ from + length (live_of format (entriesIn format room₀ len from))
+  pub reads : read_entries format floor (drop at (take len room₀)) ≡ good es n
+  pub stored : sets room to (live_bytes format es) ≡ sets room₀ from (live_of format (entries_in format room₀ len from))
+  pub sum : to + length (live_bytes format es) ≡ from + length (live_of format (entries_in format room₀ len from))
 
-pub upto-start : (room₀ : List ℕ) (len format from : ℕ) → from ≤ len → AllGood (entriesIn format room₀ len from) → Upto room₀ len format from room₀ from from 0
-upto-start room₀ len format from h x = record {
+pub upto_start : (room₀ : List ℕ) (len format from : ℕ) → from ≤ len → AllGood (entries_in format room₀ len from) → Upto room₀ len format from room₀ from from 0
+upto_start room₀ len format from h x = record {
   low = omega arith;
   high = h;
   long = refl;
@@ -65,28 +65,28 @@ module _ (room₀ : List ℕ) (len format from : ℕ) (fits : len ≤ length roo
 
   same_ahead : drop at (take len room) ≡ l₀
   same_ahead =
-      drop-take at len room x.high (omega (arith, x.long)) ∙ ap (take (len - at)) x.ahead ∙ sym (drop-take at len room₀ x.high fits)
+      drop_take at len room x.high (omega (arith, x.long)) ∙ ap (take (len - at)) x.ahead ∙ sym (drop_take at len room₀ x.high fits)
 
-  ahead-length : length l₀ ≡ len - at
-  ahead-length = length-drop at (take len room₀) ∙ ap (λ (k : ℕ). k - at) (length-take-le len room₀ fits)
+  ahead_length : length l₀ ≡ len - at
+  ahead_length = length-drop at (take len room₀) ∙ ap (λ (k : ℕ). k - at) (length-take-le len room₀ fits)
 
   -- further on too it is as it was
-  ahead-on : (j : ℕ) → at ≤ j → drop j room ≡ drop j room₀
-  ahead-on j g =
+  ahead_on : (j : ℕ) → at ≤ j → drop j room ≡ drop j room₀
+  ahead_on j g =
       let d : at + (j - at) ≡ j = omega arith in
       ap (λ (i : ℕ). drop i room) (sym d) ∙ sym (drop-drop (j - at) at room) ∙ ap (drop (j - at)) x.ahead ∙ drop-drop (j - at) at room₀ ∙ ap (λ (i : ℕ). drop i room₀) d
 
-  pub upto-end : len ≤ at → Put room₀ from (live_of format (entriesIn format room₀ len from)) to room
-  upto-end h =
-      let z : x.es ≡ [] = none-behind format floor l₀ x.es x.n (omega (arith, ahead-length)) x.reads in
-      let b : liveBytes format x.es ≡ [] = ap (liveBytes format) z ∙ none-live format in
+  pub upto_end : len ≤ at → Put room₀ from (live_of format (entries_in format room₀ len from)) to room
+  upto_end h =
+      let z : x.es ≡ [] = none_behind format floor l₀ x.es x.n (omega (arith, ahead_length)) x.reads in
+      let b : live_bytes format x.es ≡ [] = ap (live_bytes format) z ∙ none_live format in
       record { next = omega (arith, x.sum, ap length b); leaves = sym (ap (sets room to) b) ∙ x.stored }
 
   module _ (h : at < len) where
-    pub upto-never : {B : Type 0} (f : ℕ) → stepAt format at (read_entry format floor (drop at (take len room))) ≡ step.Fault f → B
-    upto-never f p =
-        let q : read_entry format floor (drop at (take len room)) ≡ bad f = step-fault format at f (read_entry format floor (drop at (take len room))) p in
-        first_good format floor l₀ f x.es x.n (omega (arith, ahead-length)) (ap (read_entry format floor) (sym same_ahead) ∙ q) x.reads
+    pub upto_never : {B : Type 0} (f : ℕ) → step_at format at (read_entry format floor (drop at (take len room))) ≡ step.Fault f → B
+    upto_never f p =
+        let q : read_entry format floor (drop at (take len room)) ≡ bad f = step_fault format at f (read_entry format floor (drop at (take len room))) p in
+        first_good format floor l₀ f x.es x.n (omega (arith, ahead_length)) (ap (read_entry format floor) (sym same_ahead) ∙ q) x.reads
 
     pub record Turn (k : ℕ) (cur : Cursor) : Type 0 where
       pub e : Entry
@@ -95,44 +95,44 @@ module _ (room₀ : List ℕ) (len format from : ℕ) (fits : len ≤ length roo
       pub rises : at < cur.at
       pub within : cur.at ≤ len
       pub kind : k ≡ e.kind
-      pub reads : readEntries format cur.floor (drop cur.at (take len room₀)) ≡ good es' m
+      pub reads : read_entries format cur.floor (drop cur.at (take len room₀)) ≡ good es' m
       pub all : x.es ≡ e ∷ es'
-      pub size : length (entryBytes format e) ≡ cur.at - at
-      pub bytes : Bytes room₀ → take (cur.at - at) (drop at room) ≡ entryBytes format e
+      pub size : length (entry_bytes format e) ≡ cur.at - at
+      pub bytes : Bytes room₀ → take (cur.at - at) (drop at room) ≡ entry_bytes format e
 
-    pub turn : (v : ℕ) (sn sp sa : Span) (cur : Cursor) (k : ℕ) → stepAt format at (read_entry format floor (drop at (take len room))) ≡ step.Record v sn sp sa cur k → Turn k cur
+    pub turn : (v : ℕ) (sn sp sa : Span) (cur : Cursor) (k : ℕ) → step_at format at (read_entry format floor (drop at (take len room))) ≡ step.Record v sn sp sa cur k → Turn k cur
     turn v sn sp sa cur k p =
-        let t = step-told format at v sn sp sa cur k (read_entry format floor (drop at (take len room))) p in
+        let t = step_told format at v sn sp sa cur k (read_entry format floor (drop at (take len room))) p in
         let q : read_entry format floor l₀ ≡ good t.e t.n = ap (read_entry format floor) (sym same_ahead) ∙ t.is in
-        let u : t.n ≡ length (entryBytes format t.e) = (entry-law format floor).used l₀ t.e t.n q in
-        let w : t.n ≤ length l₀ = (entry-law format floor).within l₀ t.e t.n q in
+        let u : t.n ≡ length (entry_bytes format t.e) = (entry_law format floor).used l₀ t.e t.n q in
+        let w : t.n ≤ length l₀ = (entry_law format floor).within l₀ t.e t.n q in
         let y = behind format floor l₀ t.e t.n x.es x.n q x.reads in
         let n : cur.at - at ≡ t.n = omega (arith, t.place) in
         record {
           e = t.e;
           es' = y.es';
           m = y.m;
-          rises = omega (arith, t.place, some-entry format t.e);
-          within = omega (arith, t.place, ahead-length);
+          rises = omega (arith, t.place, some_entry format t.e);
+          within = omega (arith, t.place, ahead_length);
           kind = t.kind;
-          reads = (λ i. readEntries format (t.floor i) (drop (t.place i) (take len room₀))) ∙ ap (readEntries format (above t.e)) (sym (drop-drop t.n at (take len room₀))) ∙ y.is;
+          reads = (λ i. read_entries format (t.floor i) (drop (t.place i) (take len room₀))) ∙ ap (read_entries format (above t.e)) (sym (drop-drop t.n at (take len room₀))) ∙ y.is;
           all = y.all;
           size = omega (arith, n, u);
           bytes = λ bs.
               ap (λ (j : ℕ). take j (drop at room)) n ∙ ap (take t.n) x.ahead
-              ∙ sym (ap (take t.n) (drop-take at len room₀ x.high fits) ∙ take-take t.n (len - at) (drop at room₀) (omega (arith, ahead-length)))
-              ∙ (entry-law format floor).only l₀ (bytes_drop at (take len room₀) (bytes_take len room₀ bs)) t.e t.n q;
+              ∙ sym (ap (take t.n) (drop_take at len room₀ x.high fits) ∙ take-take t.n (len - at) (drop at room₀) (omega (arith, ahead_length)))
+              ∙ (entry_law format floor).only l₀ (bytes_drop at (take len room₀) (bytes_take len room₀ bs)) t.e t.n q;
         }
 
     module _ (k : ℕ) (cur : Cursor) (t : Turn k cur) where
-      pub upto-passed : (k ≡ 1 → ⊥) → Upto room₀ len format from room cur.at to cur.floor
-      upto-passed z =
-          let b : liveBytes format x.es ≡ liveBytes format t.es' = ap (liveBytes format) t.all ∙ live-passed format t.e t.es' (λ y. z (t.kind ∙ y)) in
+      pub upto_passed : (k ≡ 1 → ⊥) → Upto room₀ len format from room cur.at to cur.floor
+      upto_passed z =
+          let b : live_bytes format x.es ≡ live_bytes format t.es' = ap (live_bytes format) t.all ∙ live_passed format t.e t.es' (λ y. z (t.kind ∙ y)) in
           record {
             low = omega (arith, x.low, t.rises);
             high = t.within;
             long = x.long;
-            ahead = ahead-on cur.at (omega (arith, t.rises));
+            ahead = ahead_on cur.at (omega (arith, t.rises));
             es = t.es';
             n = t.m;
             reads = t.reads;
@@ -140,20 +140,20 @@ module _ (room₀ : List ℕ) (len format from : ℕ) (fits : len ≤ length roo
             sum = sym (ap (λ (j : List ℕ). to + length j) b) ∙ x.sum;
           }
 
-      pub upto-kept : Bytes room₀ → k ≡ 1 → (room' : List ℕ) → room' ≡ sets room to (take (cur.at - at) (drop at room)) → Upto room₀ len format from room' cur.at (to + (cur.at - at)) cur.floor
-      upto-kept bs z room' d =
-          let w : List ℕ = entryBytes format t.e in
-          let b : liveBytes format x.es ≡ w ++ liveBytes format t.es' = ap (liveBytes format) t.all ∙ live-kept format t.e t.es' (sym t.kind ∙ z) in
+      pub upto_kept : Bytes room₀ → k ≡ 1 → (room' : List ℕ) → room' ≡ sets room to (take (cur.at - at) (drop at room)) → Upto room₀ len format from room' cur.at (to + (cur.at - at)) cur.floor
+      upto_kept bs z room' d =
+          let w : List ℕ = entry_bytes format t.e in
+          let b : live_bytes format x.es ≡ w ++ live_bytes format t.es' = ap (live_bytes format) t.all ∙ live_kept format t.e t.es' (sym t.kind ∙ z) in
           let c : room' ≡ sets room to w = d ∙ ap (sets room to) (t.bytes bs) in
           let s : to + (cur.at - at) ≡ to + length w = omega (arith, t.size) in
           record {
             low = omega (arith, x.low, t.rises);
             high = t.within;
             long = ap length c ∙ length-sets room to w ∙ x.long;
-            ahead = ap (drop cur.at) c ∙ drop-sets w room to cur.at (omega (arith, x.low, t.rises, t.size)) ∙ ahead-on cur.at (omega (arith, t.rises));
+            ahead = ap (drop cur.at) c ∙ drop_sets w room to cur.at (omega (arith, x.low, t.rises, t.size)) ∙ ahead_on cur.at (omega (arith, t.rises));
             es = t.es';
             n = t.m;
             reads = t.reads;
-            stored = (λ i. sets (c i) (s i) (liveBytes format t.es')) ∙ sets-append w room (liveBytes format t.es') to ∙ sym (ap (sets room to) b) ∙ x.stored;
-            sum = omega (arith, x.sum, ap length b, length-append w (liveBytes format t.es'), t.size);
+            stored = (λ i. sets (c i) (s i) (live_bytes format t.es')) ∙ sets_append w room (live_bytes format t.es') to ∙ sym (ap (sets room to) b) ∙ x.stored;
+            sum = omega (arith, x.sum, ap length b, length-append w (live_bytes format t.es'), t.size);
           }

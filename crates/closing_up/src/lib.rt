@@ -2,15 +2,15 @@
 ghost use Rattle.std.specs.Prelude.{◌≤◌, length};
 ghost use Rattle.fields.specs.Put.{Put};
 ghost use Rattle.book.specs.Told.{AllGood};
-ghost use Rattle.closing_up.specs.Up.{entriesIn, live_of};
+ghost use Rattle.closing_up.specs.Up.{entries_in, live_of};
 
 use entry::Step;
 
 // Closes up the records from `from` to `len`: the live ones, in order and byte for byte, from `from` on. Gives the place behind them. What
 // stands behind that place is not touched.
 pub fn close_up(room: &mut [u8], len: usize, format: u32, from: usize) -> usize
-    requires { (from ≤ len) × (len ≤ length room.old) × AllGood (entriesIn format room.old len from) }
-    ensures { Put room.old from (live_of format (entriesIn format room.old len from)) result room.new }
+    requires { (from ≤ len) × (len ≤ length room.old) × AllGood (entries_in format room.old len from) }
+    ensures { Put room.old from (live_of format (entries_in format room.old len from)) result room.new }
 {
     let mut at = from;
     let mut to = from;

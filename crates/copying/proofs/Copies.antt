@@ -22,10 +22,10 @@ module _ (out₀ out : List ℕ) (to at n i : ℕ) where
   pub part_length : at + n ≤ length out₀ → length src ≡ n
   part_length h = length-take-le n (drop at out₀) (omega (arith, length-drop at out₀))
 
-  pub down-one : to ≤ at → at + n ≤ length out₀ → i < n → length out ≡ length out₀ → drop (at + i) out ≡ drop (at + i) out₀ → sets out (to + i) (drop i src) ≡ sets out₀ to src
+  pub down_one : to ≤ at → at + n ≤ length out₀ → i < n → length out ≡ length out₀ → drop (at + i) out ≡ drop (at + i) out₀ → sets out (to + i) (drop i src) ≡ sets out₀ to src
       → (drop (at + (i + 1)) (set out (to + i) (get_or out (at + i) 0)) ≡ drop (at + (i + 1)) out₀)
       × (sets (set out (to + i) (get_or out (at + i) 0)) (to + (i + 1)) (drop (i + 1) src) ≡ sets out₀ to src)
-  down-one h k t e d q =
+  down_one h k t e d q =
       let v : ℕ = get_or out (at + i) 0 in
       let m : length src ≡ n = part_length k in
       let g : get_or src i 0 ≡ v =
@@ -44,8 +44,8 @@ module _ (out₀ out : List ℕ) (to at n i : ℕ) where
   none_left h q = let k : length src ≤ i = omega (arith, length-take n (drop at out₀)) in ap (sets out (to + i)) (sym (drop_of_length-le src k)) ∙ q
 
 -- ---- what is stored where it stands already
-pub sets-still : (l : List ℕ) (to at n : ℕ) → to ≡ at → at + n ≤ length l → l ≡ sets l to (take n (drop at l))
-sets-still l to at n e h =
+pub sets_still : (l : List ℕ) (to at n : ℕ) → to ≡ at → at + n ≤ length l → l ≡ sets l to (take n (drop at l))
+sets_still l to at n e h =
     let x : List ℕ = take n (drop at l) in
     let k : length x ≡ n = length-take-le n (drop at l) (omega (arith, length-drop at l)) in
     let z : at + length x ≡ at + n = omega arith in

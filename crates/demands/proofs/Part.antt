@@ -14,28 +14,28 @@ use Rattle.chosen.specs.declared.Choice.TheVariants.{Primary, Alternate}
 use Rattle.answers.specs.declared.Answer.{Answer}
 use Rattle.answers.specs.declared.Answer.TheVariants.{Coded}
 use Rattle.trimming.specs.Trim.{trimmed}
-use Rattle.encoder.specs.Encode.{encoderOf, number_of, primaryLength, alternateLength, primaryOf, alternateOf, filled, Encoded}
+use Rattle.encoder.specs.Encode.{encoder_of, number_of, primaryLength, alternateLength, primary_of, alternate_of, filled, Encoded}
 use Rattle.demands.specs.Demand2.{Walked}
-use Rattle.chosen.specs.Chosen.{frontOf, chosen_of}
+use Rattle.chosen.specs.Chosen.{front_of, chosen_of}
 use Rattle.demands.specs.Code.{code_of}
-use Rattle.demands.proofs.Demand2.{code-accepted, code-walked}
+use Rattle.demands.proofs.Demand2.{code_accepted, code_walked}
 
 -- a code at the front of its buffer is handed back
-front-filled : (code buf : List ℕ) (n : ℕ) → length code ≡ n → frontOf n (filled code buf) ≡ code
-front-filled code buf n e =
+front_filled : (code buf : List ℕ) (n : ℕ) → length code ≡ n → front_of n (filled code buf) ≡ code
+front_filled code buf n e =
     rw (← e, le-leb (length code) (length (filled code buf)) (omega (arith, length-append code (drop (length code) buf))))
     (take-append_seam code (drop (length code) buf))
 
-pub chosen-code : {ed : Edition} {l : Limit} {w p a p' a' : List ℕ} {r : Answer} → Encoded ed l w p a r p' a' → (c : Choice) (np na n : ℕ) → r ≡ Coded np na n
+pub chosen_code_lem : {ed : Edition} {l : Limit} {w p a p' a' : List ℕ} {r : Answer} → Encoded ed l w p a r p' a' → (c : Choice) (np na n : ℕ) → r ≡ Coded np na n
     → chosen_of c p' np a' na ≡ code_of ed l c w
-unfolding primaryOf alternateOf
-chosen-code {ed} {l} {w} {p} {a} {p'} {a'} {r} e c np na n q = go c (code-walked ed (code-accepted e (ap number_of q)) e)
+unfolding primary_of alternate_of
+chosen_code_lem {ed} {l} {w} {p} {a} {p'} {a'} {r} e c np na n q = go c (code_walked ed (code_accepted e (ap number_of q)) e)
   where
     go : (c : Choice) → Walked ed l w p a r p' a' → chosen_of c p' np a' na ≡ code_of ed l c w
-    go Primary x = rw x.primary (front-filled (primaryOf ed l (trimmed w)) p np (ap primaryLength (sym x.answer ∙ q)))
-    go Alternate x = rw x.alternate (front-filled (alternateOf ed l (trimmed w)) a na (ap alternateLength (sym x.answer ∙ q)))
+    go Primary x = rw x.primary (front_filled (primary_of ed l (trimmed w)) p np (ap primaryLength (sym x.answer ∙ q)))
+    go Alternate x = rw x.alternate (front_filled (alternate_of ed l (trimmed w)) a na (ap alternateLength (sym x.answer ∙ q)))
 
 -- and of a call of the encoder x that was made for an edition with the limit l
-pub part-is : {x : Encoder} {ed : Edition} {l : Limit} {w p a p' a' part : List ℕ} {r : Answer} → x ≡ encoderOf ed l → Encoded x.edition x.limit w p a r p' a'
+pub part_is : {x : Encoder} {ed : Edition} {l : Limit} {w p a p' a' part : List ℕ} {r : Answer} → x ≡ encoder_of ed l → Encoded x.edition x.limit w p a r p' a'
     → (c : Choice) (np na n : ℕ) → r ≡ Coded np na n → part ≡ chosen_of c p' np a' na → part ≡ code_of ed l c w
-part-is {w = w} made e c np na n q f = f ∙ chosen-code e c np na n q ∙ ap (λ (x : Encoder). code_of x.edition x.limit c w) made
+part_is {w = w} made e c np na n q f = f ∙ chosen_code_lem e c np na n q ∙ ap (λ (x : Encoder). code_of x.edition x.limit c w) made

@@ -8,13 +8,13 @@ use Rattle.terms.specs.declared.Limit.{Limit}
 use Rattle.answers.specs.declared.Answer.{Answer}
 use Rattle.answers.specs.declared.Answer.TheVariants.{Coded}
 use Rattle.trimming.specs.Trim.{trimmed}
-use Rattle.terms.specs.Limits.{wordLimit}
+use Rattle.terms.specs.Limits.{word_limit}
 use Rattle.needs.specs.Needs.{need_of}
 use Rattle.encoder.specs.Encode.{walk_of}
 
 -- the words that are taken
 pub record Taken (w : List ℕ) : Type 0 where
-  pub fits : length w ≤ wordLimit
+  pub fits : length w ≤ word_limit
   pub ascii : (k : ℕ) → k < length w → get_or w k 0 < 128
 
 -- with enough room they are accepted

@@ -1,5 +1,5 @@
 -- Laws of editions.
---     Editions   `edition-seven`, `edition-encoded`: an edition by its number
+--     Editions   `edition_seven`, `edition_encoded`: an edition by its number
 --     NoChoice   no public function's promise leaves a choice
 pub mod Editions
 pub mod NoChoice

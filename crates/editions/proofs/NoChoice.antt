@@ -10,11 +10,11 @@ use contract.Lifetimes.{Lfts}
 -- the number, the limit, the word and the two buffers: the buffers at exit are the fourth and the fifth
 module _ (κs : Lfts 3) (a : Dens κs encode-in-kinds.ps) (x y : (res_t encode-in-kinds.r κs).Denot) (s t : AtExit (ended_of 3 encode-in-kinds.ps encode-in-kinds.r) κs)
     (p : encode-in.Post κs a x s) (q : encode-in.Post κs a y t) where
-  pub one-encode-in : x ≡ y
-  one-encode-in = p.answer ∙ sym q.answer
+  pub one_encode_in : x ≡ y
+  one_encode_in = p.answer ∙ sym q.answer
 
-  pub one-primary-in : s.1.1.1.0.now ≡ t.1.1.1.0.now
-  one-primary-in = p.primary ∙ rw one-encode-in (sym q.primary)
+  pub one_primary_in : s.1.1.1.0.now ≡ t.1.1.1.0.now
+  one_primary_in = p.primary ∙ rw one_encode_in (sym q.primary)
 
-  pub one-alternate-in : s.1.1.1.1.0.now ≡ t.1.1.1.1.0.now
-  one-alternate-in = p.alternate ∙ rw one-encode-in (sym q.alternate)
+  pub one_alternate_in : s.1.1.1.1.0.now ≡ t.1.1.1.1.0.now
+  one_alternate_in = p.alternate ∙ rw one_encode_in (sym q.alternate)

@@ -3,9 +3,9 @@
 -- gets.
 use Rattle.std.specs.Prelude.{ℕ, zero, suc, ◌≡◌, List, cond, ltb, length}
 pub use Rattle.walk.specs.Walk.{filled}
-pub use Rattle.terms.specs.Limits.{wordLimit}
+pub use Rattle.terms.specs.Limits.{word_limit}
 pub use Rattle.answers.specs.Answers.{number_of, place_of, primaryLength, alternateLength, visitCount}
-use Rattle.walk.specs.Word.{whole_of, limitedOf}
+use Rattle.walk.specs.Word.{whole_of, limited_of}
 use Rattle.terms.specs.declared.Edition.{Edition}
 use Rattle.terms.specs.declared.Limit.{Limit}
 use Rattle.terms.specs.declared.Limit.TheVariants.{Whole, At}
@@ -13,55 +13,55 @@ use Rattle.encoder.specs.declared.Encoder.{Encoder}
 use Rattle.answers.specs.declared.Answer.{Answer}
 use Rattle.answers.specs.declared.Answer.TheVariants.{Coded, TooLong, NotAscii, PrimaryShort, AlternateShort}
 use Rattle.trimming.specs.Trim.{trimmed}
-use Rattle.ascii.specs.High.{firstHigh}
+use Rattle.ascii.specs.High.{first_high}
 use Rattle.encoder.specs.Table.{Given}
 use Rattle.needs.specs.Needs.{need_of}
 use Rattle.walk.specs.Walk as walk
 
 -- "the default limit, 4, belongs to the encoder"
-abbrev pub defaultLimit : ℕ
-defaultLimit = 4
+abbrev pub default_limit : ℕ
+default_limit = 4
 
-abbrev pub encoderOf : Edition → Limit → Encoder
-encoderOf ed l = record { limit = l; edition = ed }
+abbrev pub encoder_of : Edition → Limit → Encoder
+encoder_of ed l = record { limit = l; edition = ed }
 
 -- the walk of a trimmed word under an edition, with no limit or under one
 abbrev pub walk_of : Edition → Limit → List ℕ → walk.Coded
 walk_of ed Whole t = whole_of ed t
-walk_of ed (At n) t = limitedOf ed n t
+walk_of ed (At n) t = limited_of ed n t
 
 -- its codes and its visits
-unfoldable pub primaryOf : Edition → Limit → List ℕ → List ℕ
-primaryOf ed l t = (walk_of ed l t).primary
+unfoldable pub primary_of : Edition → Limit → List ℕ → List ℕ
+primary_of ed l t = (walk_of ed l t).primary
 
-unfoldable pub alternateOf : Edition → Limit → List ℕ → List ℕ
-alternateOf ed l t = (walk_of ed l t).alternate
+unfoldable pub alternate_of : Edition → Limit → List ℕ → List ℕ
+alternate_of ed l t = (walk_of ed l t).alternate
 
-abbrev pub visitsUnder : Edition → Limit → List ℕ → ℕ
-visitsUnder ed l t = (walk_of ed l t).visits
+abbrev pub visits_under : Edition → Limit → List ℕ → ℕ
+visits_under ed l t = (walk_of ed l t).visits
 
 -- the answer to an accepted word
-abbrev pub codedOf : Edition → Limit → List ℕ → Answer
-codedOf ed l t = Coded (length (primaryOf ed l t)) (length (alternateOf ed l t)) (visitsUnder ed l t)
+abbrev pub coded_of : Edition → Limit → List ℕ → Answer
+coded_of ed l t = Coded (length (primary_of ed l t)) (length (alternate_of ed l t)) (visits_under ed l t)
 
 -- the answer to any word, where the buffers have m and n bytes
 abbrev pub answer_of : Edition → Limit → List ℕ → ℕ → ℕ → Answer
 answer_of ed l w m n =
-    cond (ltb wordLimit (length w)) TooLong
-    (cond (ltb (firstHigh w) (length w)) (NotAscii (firstHigh w))
+    cond (ltb word_limit (length w)) TooLong
+    (cond (ltb (first_high w) (length w)) (NotAscii (first_high w))
     (cond (ltb m (need_of l (length (trimmed w)))) PrimaryShort
     (cond (ltb n (need_of l (length (trimmed w)))) AlternateShort
-    (codedOf ed l (trimmed w)))))
+    (coded_of ed l (trimmed w)))))
 
 -- a buffer after the answer of a number: an accepted word's code at its front, and a refusal changes nothing
-abbrev pub leftBy : ℕ → List ℕ → List ℕ → List ℕ
-leftBy zero code buf = filled code buf
-leftBy (suc refusal) code buf = buf
+abbrev pub left_by : ℕ → List ℕ → List ℕ → List ℕ
+left_by zero code buf = filled code buf
+left_by (suc refusal) code buf = buf
 
 -- what `encode` promises of its edition and limit, the word w, its answer r, and its buffers before (p, a) and after (p', a'): document 01's table, the
 -- answer itself, and each buffer
 pub record Encoded (ed : Edition) (l : Limit) (w p a : List ℕ) (r : Answer) (p' a' : List ℕ) : Type 0 where
-  pub given : Given (length w) (firstHigh w) (length p) (length a) (need_of l (length (trimmed w))) r
+  pub given : Given (length w) (first_high w) (length p) (length a) (need_of l (length (trimmed w))) r
   pub answer : r ≡ answer_of ed l w (length p) (length a)
-  pub primary : p' ≡ leftBy (number_of r) (primaryOf ed l (trimmed w)) p
-  pub alternate : a' ≡ leftBy (number_of r) (alternateOf ed l (trimmed w)) a
+  pub primary : p' ≡ left_by (number_of r) (primary_of ed l (trimmed w)) p
+  pub alternate : a' ≡ left_by (number_of r) (alternate_of ed l (trimmed w)) a

@@ -3,15 +3,15 @@
 -- what `encode` promises (Encode.antt); theorem `unchanged` of crates/demands/proofs/Table.antt: a refusal leaves the buffers untouched.
 use Rattle.std.specs.Prelude.{ℕ, ◌≤◌, ◌<◌, ◌≡◌, ◌↔◌}
 use Rattle.answers.specs.declared.Answer.{Answer}
-use Rattle.terms.specs.Limits.{wordLimit}
+use Rattle.terms.specs.Limits.{word_limit}
 use Rattle.answers.specs.Answers.{number_of, place_of, primaryLength, alternateLength, visitCount}
 
 pub record Given (n high p a need : ℕ) (r : Answer) : Type 0 where
-  pub one : (number_of r ≡ 1) ↔ (wordLimit < n)
-  pub two : (number_of r ≡ 2) ↔ ((n ≤ wordLimit) × (high < n))
-  pub three : (number_of r ≡ 3) ↔ ((n ≤ wordLimit) × (n ≤ high) × (p < need))
-  pub four : (number_of r ≡ 4) ↔ ((n ≤ wordLimit) × (n ≤ high) × (need ≤ p) × (a < need))
-  pub accepted : (number_of r ≡ 0) ↔ ((n ≤ wordLimit) × (n ≤ high) × (need ≤ p) × (need ≤ a))
+  pub one : (number_of r ≡ 1) ↔ (word_limit < n)
+  pub two : (number_of r ≡ 2) ↔ ((n ≤ word_limit) × (high < n))
+  pub three : (number_of r ≡ 3) ↔ ((n ≤ word_limit) × (n ≤ high) × (p < need))
+  pub four : (number_of r ≡ 4) ↔ ((n ≤ word_limit) × (n ≤ high) × (need ≤ p) × (a < need))
+  pub accepted : (number_of r ≡ 0) ↔ ((n ≤ word_limit) × (n ≤ high) × (need ≤ p) × (need ≤ a))
   pub place : number_of r ≡ 2 → place_of r ≡ high
   pub no_place : (number_of r ≡ 2 → ⊥) → place_of r ≡ 0
   pub nothing : 0 < number_of r → (primaryLength r ≡ 0) × (alternateLength r ≡ 0) × (visitCount r ≡ 0)

@@ -1,6 +1,6 @@
 // The encoder: refuses what it must, trims the word, and lends the inner part and both buffers to the walk.
 ghost use Rattle.std.specs.Prelude.{◌≡◌};
-ghost use Rattle.encoder.specs.Encode.{encoderOf, defaultLimit, Encoded};
+ghost use Rattle.encoder.specs.Encode.{encoder_of, default_limit, Encoded};
 
 use answers::Answer;
 use terms::{Edition, Limit, WORD_LIMIT};
@@ -15,20 +15,20 @@ impl Encoder {
     pub const DEFAULT_LIMIT: usize = 4;
 
     pub fn in_edition(edition: Edition, limit: Limit) -> Self
-        ensures { result ≡ encoderOf edition limit }
+        ensures { result ≡ encoder_of edition limit }
     {
         Self { limit, edition }
     }
 
     // Edition 1, as the Rust.
     pub fn new(limit: Limit) -> Self
-        ensures { result ≡ encoderOf Edition.E1 limit }
+        ensures { result ≡ encoder_of Edition.E1 limit }
     {
         Self::in_edition(Edition::E1, limit)
     }
 
     pub fn default() -> Self
-        ensures { result ≡ encoderOf Edition.E1 (Limit.At defaultLimit) }
+        ensures { result ≡ encoder_of Edition.E1 (Limit.At default_limit) }
     {
         Self::in_edition(Edition::E1, Limit::At(Encoder::DEFAULT_LIMIT))
     }

@@ -4,5 +4,5 @@ use Rattle.basics.proofs.Choice.{OneResult}
 use Rattle.entry.proofs.record_at.Kinds as record-at-kinds
 use Rattle.entry.proofs.record_at.Reads as record-at
 
-pub one-record-at : OneResult record-at-kinds.ps record-at-kinds.r record-at.Post
-one-record-at κs a x y s t p q = p ∙ sym q
+pub one_record_at : OneResult record-at-kinds.ps record-at-kinds.r record-at.Post
+one_record_at κs a x y s t p q = p ∙ sym q

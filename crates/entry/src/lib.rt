@@ -2,11 +2,11 @@
 // a name that the encoder refuses, 5 a number in a bad form, 6 the book ends inside something, 7 unknown kind, 8 station not above the
 // one before.
 ghost use Rattle.std.specs.Prelude.{◌≡◌, drop};
-ghost use Rattle.fields.specs.Field.{readNumber, readText, any};
-ghost use Rattle.fields.specs.Got.{readBoth};
+ghost use Rattle.fields.specs.Field.{read_number, read_text, any};
+ghost use Rattle.fields.specs.Got.{read_both};
 ghost use Rattle.fields.specs.Told.{value_at};
-ghost use Rattle.entry.specs.Entry.{rising, readRecord, readKind, read_entry};
-ghost use Rattle.entry.specs.Told.{codesAt, body_at, stepAt};
+ghost use Rattle.entry.specs.Entry.{rising, read_record, read_kind, read_entry};
+ghost use Rattle.entry.specs.Told.{codes_at, body_at, step_at};
 
 use fields::{Part, Value};
 use header::Cursor;
@@ -38,7 +38,7 @@ pub enum Step {
 }
 
 fn station_at(s: &[u8], at: usize, floor: u32) -> Value
-    ensures { result ≡ value_at at (readNumber (rising floor) (drop at s.now)) }
+    ensures { result ≡ value_at at (read_number (rising floor) (drop at s.now)) }
 {
     let found = fields::number_at(s, at);
     match found {
@@ -53,7 +53,7 @@ fn station_at(s: &[u8], at: usize, floor: u32) -> Value
 }
 
 fn codes_at(s: &[u8], at: usize) -> Codes
-    ensures { result ≡ codesAt at (readBoth (readText any any) (readText any any) (drop at s.now)) }
+    ensures { result ≡ codes_at at (read_both (read_text any any) (read_text any any) (drop at s.now)) }
 {
     let first = fields::text_at(s, at);
     match first {
@@ -80,7 +80,7 @@ fn codes_at(s: &[u8], at: usize) -> Codes
 
 // The record behind its kind.
 fn body_at(s: &[u8], at: usize, kind: u32, floor: u32) -> Step
-    ensures { result ≡ body_at kind at (readRecord floor (drop at s.now)) }
+    ensures { result ≡ body_at kind at (read_record floor (drop at s.now)) }
 {
     let first = station_at(s, at, floor);
     match first {
@@ -123,7 +123,7 @@ fn body_at(s: &[u8], at: usize, kind: u32, floor: u32) -> Step
 
 // The kind at a place. Format 1 spells none: its records are live.
 fn kind_at(s: &[u8], at: usize, format: u32) -> Value
-    ensures { result ≡ value_at at (readKind format (drop at s.now)) }
+    ensures { result ≡ value_at at (read_kind format (drop at s.now)) }
 {
     if format == 1 {
         return Value::At { value: 1, next: at };
@@ -142,7 +142,7 @@ fn kind_at(s: &[u8], at: usize, format: u32) -> Value
 
 // The record at any place, with its kind; its station must be at least `floor`.
 pub fn record_at(s: &[u8], at: usize, format: u32, floor: u32) -> Step
-    ensures { result ≡ stepAt format at (read_entry format floor (drop at s.now)) }
+    ensures { result ≡ step_at format at (read_entry format floor (drop at s.now)) }
 {
     let first = kind_at(s, at, format);
     match first {

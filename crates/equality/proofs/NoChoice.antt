@@ -4,5 +4,5 @@ use Rattle.basics.proofs.Choice.{OneResult}
 use Rattle.equality.proofs.equal.Kinds as equal-kinds
 use Rattle.equality.proofs.equal.Reads as equal
 
-pub one-equal : OneResult equal-kinds.ps equal-kinds.r equal.Post
-one-equal κs a x y s t p q = p.answer ∙ sym q.answer
+pub one_equal : OneResult equal-kinds.ps equal-kinds.r equal.Post
+one_equal κs a x y s t p q = p.answer ∙ sym q.answer

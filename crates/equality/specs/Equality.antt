@@ -1,12 +1,12 @@
 -- The equality question, after document 01's "The first word is checked wholly before the second. The limited codes are
--- compared, and two empty codes are equal." proofs/NoChoice.antt shows that nothing is left open, and `equal-exactly`,
--- `two-empty` of proofs/Table.antt what a comparison says.
+-- compared, and two empty codes are equal." proofs/NoChoice.antt shows that nothing is left open, and `equal_exactly`,
+-- `two_empty` of proofs/Table.antt what a comparison says.
 use Rattle.std.specs.Prelude.{ℕ, ◌≡◌, List, cond, ltb, length}
 use Rattle.basics.specs.Same.{same}
 use Rattle.terms.specs.declared.Edition.TheVariants.{E1}
 use Rattle.terms.specs.declared.Limit.{Limit}
-use Rattle.ascii.specs.High.{firstHigh}
-use Rattle.terms.specs.Limits.{wordLimit}
+use Rattle.ascii.specs.High.{first_high}
+use Rattle.terms.specs.Limits.{word_limit}
 use Rattle.demands.specs.Code.{code_of}
 use Rattle.chosen.specs.declared.Choice.{Choice}
 pub use Rattle.answers.specs.Verdicts.{number_of, word_of, place_of, equal_of}
@@ -15,17 +15,17 @@ use Rattle.answers.specs.declared.Verdict.{Verdict}
 use Rattle.answers.specs.declared.Verdict.TheVariants.{Equal, Different, TooLong, NotAscii}
 
 -- a word's refusal, the first or the second word's by `which`, or what an accepted word gives
-abbrev pub unlessRefused : ℕ → List ℕ → Verdict → Verdict
-unlessRefused which w v = cond (ltb wordLimit (length w)) (TooLong which) (cond (ltb (firstHigh w) (length w)) (NotAscii which (firstHigh w)) v)
+abbrev pub unless_refused : ℕ → List ℕ → Verdict → Verdict
+unless_refused which w v = cond (ltb word_limit (length w)) (TooLong which) (cond (ltb (first_high w) (length w)) (NotAscii which (first_high w)) v)
 
 abbrev pub compared : List ℕ → List ℕ → Verdict
 compared x y = cond (same x y) Equal Different
 
 -- the answer, which is edition 1's: the first word is checked wholly before the second
-abbrev pub verdictOf : Limit → Choice → List ℕ → List ℕ → Verdict
-verdictOf l c one two = unlessRefused 1 one (unlessRefused 2 two (compared (code_of E1 l c one) (code_of E1 l c two)))
+abbrev pub verdict_of : Limit → Choice → List ℕ → List ℕ → Verdict
+verdict_of l c one two = unless_refused 1 one (unless_refused 2 two (compared (code_of E1 l c one) (code_of E1 l c two)))
 
 -- what `equal` promises of its answer r: when each number is given, and the answer itself
 pub record Answered (l : Limit) (c : Choice) (one two : List ℕ) (r : Verdict) : Type 0 where
-  pub told : Told (length one) (firstHigh one) (length two) (firstHigh two) r
-  pub answer : r ≡ verdictOf l c one two
+  pub told : Told (length one) (first_high one) (length two) (first_high two) r
+  pub answer : r ≡ verdict_of l c one two

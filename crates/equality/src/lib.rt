@@ -2,7 +2,7 @@
 ghost use Rattle.std.specs.Prelude.{◌≡◌};
 ghost use Rattle.terms.specs.declared.Edition.TheVariants.{E1};
 ghost use Rattle.demands.specs.Code.{code_of};
-ghost use Rattle.equality.specs.Equality.{compared, unlessRefused, Answered};
+ghost use Rattle.equality.specs.Equality.{compared, unless_refused, Answered};
 
 use answers::{Answer, Verdict};
 use chosen::{Choice, chosen};
@@ -11,7 +11,7 @@ use terms::{CODE_ROOM, Limit};
 
 // The second word against the first one's code. CODE_ROOM is enough, so no buffer is found too short.
 fn against(limit: Limit, choice: Choice, code: &[u8], two: &[u8]) -> Verdict
-    ensures { result ≡ unlessRefused 2 two.now (compared code.now (code_of E1 limit choice two.now)) }
+    ensures { result ≡ unless_refused 2 two.now (compared code.now (code_of E1 limit choice two.now)) }
 {
     let mut p = [0u8; CODE_ROOM];
     let mut a = [0u8; CODE_ROOM];

@@ -6,11 +6,11 @@ use mathlib.Core.List.{List}
 use lib.ListN.{length}
 use Rattle.terms.specs.declared.Limit.{Limit}
 use Rattle.listing.specs.declared.Told.{Told}
-use Rattle.listing.specs.Listing.{toldOf, roomOf, Explained}
-use Rattle.explain.specs.Face.{toldNumbers}
+use Rattle.listing.specs.Listing.{told_of, room_of, Explained}
+use Rattle.explain.specs.Face.{told_numbers}
 
-pub told-listed : {n : ℕ} {given l : Limit} {w room o room' : List ℕ} {r : Told} → given ≡ l → Explained n given w room r room' → o ≡ toldNumbers r
-    → (o ≡ toldNumbers (toldOf n l w (length room))) × (room' ≡ roomOf n l w room)
-told-listed {n} {given} {l} {w} {room} {o} {room'} {r} j e f =
+pub told_listed : {n : ℕ} {given l : Limit} {w room o room' : List ℕ} {r : Told} → given ≡ l → Explained n given w room r room' → o ≡ told_numbers r
+    → (o ≡ told_numbers (told_of n l w (length room))) × (room' ≡ room_of n l w room)
+told_listed {n} {given} {l} {w} {room} {o} {room'} {r} j e f =
     let g : Explained n l w room r room' = rw j at e in
-    (f ∙ ap toldNumbers g.answer, g.rows)
+    (f ∙ ap told_numbers g.answer, g.rows)

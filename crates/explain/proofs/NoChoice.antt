@@ -10,8 +10,8 @@ use contract.Lifetimes.{Lfts}
 -- the edition, the word, two numbers, the room and the answer: the room at exit is the fifth, the answer the sixth
 module _ (κs : Lfts 3) (a : Dens κs explain-kinds.ps) (x y : (res_t explain-kinds.r κs).Denot) (s t : AtExit (ended_of 3 explain-kinds.ps explain-kinds.r) κs)
     (p : explain.Post κs a x s) (q : explain.Post κs a y t) where
-  pub one-numbers : s.1.1.1.1.1.0.now ≡ t.1.1.1.1.1.0.now
-  one-numbers = p.0 ∙ sym q.0
+  pub one_numbers : s.1.1.1.1.1.0.now ≡ t.1.1.1.1.1.0.now
+  one_numbers = p.0 ∙ sym q.0
 
-  pub one-room : s.1.1.1.1.0.now ≡ t.1.1.1.1.0.now
-  one-room = p.1 ∙ sym q.1
+  pub one_room : s.1.1.1.1.0.now ≡ t.1.1.1.1.0.now
+  one_room = p.1 ∙ sym q.1

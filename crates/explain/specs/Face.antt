@@ -3,5 +3,5 @@ use Rattle.std.specs.Prelude.{ℕ, List, [], ◌∷◌}
 use Rattle.listing.specs.declared.Told.{Told}
 use Rattle.listing.specs.Numbers.{number_of, place_of, rows_of}
 
-abbrev pub toldNumbers : Told → List ℕ
-toldNumbers r = number_of r ∷ place_of r ∷ rows_of r ∷ []
+abbrev pub told_numbers : Told → List ℕ
+told_numbers r = number_of r ∷ place_of r ∷ rows_of r ∷ []

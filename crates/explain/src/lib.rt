@@ -2,16 +2,16 @@
 // caller of `letters::visit_at` in the module of crates/simmerquilt would keep the letter rules from being compiled into the walk, and
 // cost the encoder a quarter of its speed. host/native-build puts both modules into one archive.
 ghost use Rattle.std.specs.Prelude.{◌≡◌, length};
-ghost use Rattle.listing.specs.Listing.{toldOf, roomOf};
-ghost use Rattle.asking.specs.Asked.{limitOf};
-ghost use Rattle.explain.specs.Face.{toldNumbers};
+ghost use Rattle.listing.specs.Listing.{told_of, room_of};
+ghost use Rattle.asking.specs.Asked.{limit_of};
+ghost use Rattle.explain.specs.Face.{told_numbers};
 
 use asking::limit_of;
 use listing::Told;
 
 // Number, place, and how many rows.
 fn tell(told: Told, out: &mut [u64; 3])
-    ensures { out.new ≡ toldNumbers told }
+    ensures { out.new ≡ told_numbers told }
 {
     match told {
         Told::Rows(n) => {
@@ -42,8 +42,8 @@ pub extern "C" fn simmerquilt_explain(
     rows: &mut [u32],
     out: &mut [u64; 3],
 )
-    ensures told { out.new ≡ toldNumbers (toldOf edition (limitOf limited limit) word.now (length rows.old)) }
-    ensures room { rows.new ≡ roomOf edition (limitOf limited limit) word.now rows.old }
+    ensures told { out.new ≡ told_numbers (told_of edition (limit_of limited limit) word.now (length rows.old)) }
+    ensures room { rows.new ≡ room_of edition (limit_of limited limit) word.now rows.old }
 {
     let told = listing::explain(edition, limit_of(limited, limit), word, rows);
     tell(told, out);

@@ -11,36 +11,36 @@ use Rattle.fields.proofs.bytes_at.Reads as bytes-at
 use Rattle.fields.proofs.text_at.Kinds as text-at-kinds
 use Rattle.fields.proofs.text_at.Reads as text_at
 use Rattle.fields.proofs.text_size.Kinds as text-size-kinds
-use Rattle.fields.proofs.text_size.Reads as text-size
+use Rattle.fields.proofs.text_size.Reads as text_size_lem
 use Rattle.fields.proofs.put_number.Kinds as put-number-kinds
 use Rattle.fields.proofs.put_number.Reads as put-number
 use Rattle.fields.proofs.put_text.Kinds as put-text-kinds
 use Rattle.fields.proofs.put_text.Reads as put-text
 use contract.Lifetimes.{Lfts}
 
-pub one-number-at : OneResult number-at-kinds.ps number-at-kinds.r number_at.Post
-one-number-at κs a x y s t p q = p ∙ sym q
+pub one_number_at : OneResult number-at-kinds.ps number-at-kinds.r number_at.Post
+one_number_at κs a x y s t p q = p ∙ sym q
 
-pub one-bytes-at : OneResult bytes-at-kinds.ps bytes-at-kinds.r bytes-at.Post
-one-bytes-at κs a x y s t p q = p ∙ sym q
+pub one_bytes_at : OneResult bytes-at-kinds.ps bytes-at-kinds.r bytes-at.Post
+one_bytes_at κs a x y s t p q = p ∙ sym q
 
-pub one-text-at : OneResult text-at-kinds.ps text-at-kinds.r text_at.Post
-one-text-at κs a x y s t p q = p ∙ sym q
+pub one_text_at : OneResult text-at-kinds.ps text-at-kinds.r text_at.Post
+one_text_at κs a x y s t p q = p ∙ sym q
 
-pub one-text-size : OneResult text-size-kinds.ps text-size-kinds.r text-size.Post
-one-text-size κs a x y s t p q = p ∙ sym q
+pub one_text_size : OneResult text-size-kinds.ps text-size-kinds.r text_size_lem.Post
+one_text_size κs a x y s t p q = p ∙ sym q
 
-pub one-put-number : OneResult put-number-kinds.ps put-number-kinds.r put-number.Post
-one-put-number κs a x y s t p q = p.next ∙ sym q.next
+pub one_put_number : OneResult put-number-kinds.ps put-number-kinds.r put-number.Post
+one_put_number κs a x y s t p q = p.next ∙ sym q.next
 
-pub one-put-text : OneResult put-text-kinds.ps put-text-kinds.r put-text.Post
-one-put-text κs a x y s t p q = p.next ∙ sym q.next
+pub one_put_text : OneResult put-text-kinds.ps put-text-kinds.r put-text.Post
+one_put_text κs a x y s t p q = p.next ∙ sym q.next
 
 -- the room at exit is the first
 module _ (κs : Lfts 1) (a : Dens κs put-number-kinds.ps) (x y : (res_t put-number-kinds.r κs).Denot) (s t : AtExit (ended_of 1 put-number-kinds.ps put-number-kinds.r) κs) where
-  pub one-number-room : put-number.Post κs a x s → put-number.Post κs a y t → s.0.now ≡ t.0.now
-  one-number-room p q = p.leaves ∙ sym q.leaves
+  pub one_number_room : put-number.Post κs a x s → put-number.Post κs a y t → s.0.now ≡ t.0.now
+  one_number_room p q = p.leaves ∙ sym q.leaves
 
 module _ (κs : Lfts 2) (a : Dens κs put-text-kinds.ps) (x y : (res_t put-text-kinds.r κs).Denot) (s t : AtExit (ended_of 2 put-text-kinds.ps put-text-kinds.r) κs) where
-  pub one-text-room : put-text.Post κs a x s → put-text.Post κs a y t → s.0.now ≡ t.0.now
-  one-text-room p q = p.leaves ∙ sym q.leaves
+  pub one_text_room : put-text.Post κs a x s → put-text.Post κs a y t → s.0.now ≡ t.0.now
+  one_text_room p q = p.leaves ∙ sym q.leaves

@@ -11,25 +11,25 @@ use Rattle.number.specs.Septets.{groups, leaves}
 use Rattle.number.proofs.Laws.{room}
 use Rattle.fields.specs.Field.{number, text}
 use Rattle.fields.specs.Put.{Put}
-use Rattle.basics.proofs.Sets.{sets-append}
+use Rattle.basics.proofs.Sets.{sets_append}
 
 pub put_then : {out : List ℕ} {at : ℕ} {x : List ℕ} {r : ℕ} {mid y : List ℕ} {r' : ℕ} {out' : List ℕ} → Put out at x r mid → Put mid r y r' out' → Put out at (x ++ y) r' out'
 put_then {out} {at} {x} {r} {mid} {y} p q = record {
   next = omega (arith, p.next, q.next, length-append x y);
-  leaves = q.leaves ∙ (λ i. sets (p.leaves i) (p.next i) y) ∙ sets-append x out y at;
+  leaves = q.leaves ∙ (λ i. sets (p.leaves i) (p.next i) y) ∙ sets_append x out y at;
 }
 
 -- how many bytes are there after a write
-pub put-length : {out : List ℕ} {at : ℕ} {x : List ℕ} {r : ℕ} {mid : List ℕ} → Put out at x r mid → length mid ≡ length out
-put-length {out} {at} {x} p = ap length p.leaves ∙ length-sets out at x
+pub put_length : {out : List ℕ} {at : ℕ} {x : List ℕ} {r : ℕ} {mid : List ℕ} → Put out at x r mid → length mid ≡ length out
+put_length {out} {at} {x} p = ap length p.leaves ∙ length-sets out at x
 
 pub wide : (x w : ℕ) → w ≡ length (groups 4 x) → w ≡ length (number x)
 unfolding number
 wide x w e = e
 
-groups-short : (k x : ℕ) → length (groups k x) ≤ k
-groups-short zero x = omega arith
-groups-short (suc k) x = go (ltb x 128) (groups-short k (x / 128))
+groups_short : (k x : ℕ) → length (groups k x) ≤ k
+groups_short zero x = omega arith
+groups_short (suc k) x = go (ltb x 128) (groups_short k (x / 128))
   where
     go : (t : Bool) → length (groups k (x / 128)) ≤ k → length (cond t (x ∷ []) ((x % 128 + 128) ∷ groups k (x / 128))) ≤ suc k
     go true h = omega arith
@@ -37,20 +37,20 @@ groups-short (suc k) x = go (ltb x 128) (groups-short k (x / 128))
 
 pub four : (x : ℕ) → length (number x) ≤ 4
 unfolding number
-four x = groups-short 4 x
+four x = groups_short 4 x
 
 pub number_put : (out : List ℕ) (at x w : ℕ) (out' : List ℕ) → x < 2 ^ 28 → at + length (number x) ≤ length out → out' ≡ leaves out at x → w ≡ length (groups 4 x)
     → Put out at (number x) (at + w) out'
 unfolding number
 number_put out at x w out' h l e d = record { next = ap (λ (k : ℕ). at + k) d; leaves = e ∙ (room out at x h l).1 }
 
-pub text-length : (t : List ℕ) → length (text t) ≡ length (number (length t)) + length t
+pub text_length : (t : List ℕ) → length (text t) ≡ length (number (length t)) + length t
 unfolding text
-text-length t = length-append (number (length t)) t
+text_length t = length-append (number (length t)) t
 
-pub text-put : (out : List ℕ) (at : ℕ) (t : List ℕ) (r : ℕ) (mid out' : List ℕ) → Put out at (number (length t)) r mid → out' ≡ sets mid r t → Put out at (text t) (r + length t) out'
+pub text_put : (out : List ℕ) (at : ℕ) (t : List ℕ) (r : ℕ) (mid out' : List ℕ) → Put out at (number (length t)) r mid → out' ≡ sets mid r t → Put out at (text t) (r + length t) out'
 unfolding text
-text-put out at t r mid out' p e = put_then p (record { next = refl; leaves = e })
+text_put out at t r mid out' p e = put_then p (record { next = refl; leaves = e })
 
-pub text-takes : (t : List ℕ) (w : ℕ) → w ≡ length (groups 4 (length t)) → w + length t ≡ length (text t)
-text-takes t w e = omega (arith, text-length t, wide (length t) w e)
+pub text_takes : (t : List ℕ) (w : ℕ) → w ≡ length (groups 4 (length t)) → w + length t ≡ length (text t)
+text_takes t w e = omega (arith, text_length t, wide (length t) w e)

@@ -14,11 +14,11 @@ value_at at (good v n) = value.At v (at + n)
 value_at at (bad f) = value.Fault f
 
 -- where the bytes of a text lie that begins at a place
-abbrev pub spanAt : ℕ → List ℕ → Span
-spanAt at t = record { start = at + length (number (length t)); len = length t }
+abbrev pub span_at : ℕ → List ℕ → Span
+span_at at t = record { start = at + length (number (length t)); len = length t }
 
 abbrev pub part_at : ℕ → Got (List ℕ) → Part
-part_at at (good t n) = part.At (spanAt at t) (at + n)
+part_at at (good t n) = part.At (span_at at t) (at + n)
 part_at at (bad f) = part.Fault f
 
 -- bytes that begin at a place, with no length before them

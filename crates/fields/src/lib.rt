@@ -1,6 +1,6 @@
 // The fields of a book, a number and a text behind its length: read at any place, and put where there is room.
 ghost use Rattle.std.specs.Prelude.{◌≡◌, ◌+◌, ◌^◌, ◌≤◌, ◌<◌, length, drop};
-ghost use Rattle.fields.specs.Field.{number, text, readNumber, readBytes, readText, any};
+ghost use Rattle.fields.specs.Field.{number, text, read_number, read_bytes, read_text, any};
 ghost use Rattle.fields.specs.Put.{Put};
 ghost use Rattle.fields.specs.Told.{value_at, part_at, bytes_at};
 
@@ -21,7 +21,7 @@ pub enum Part {
 
 // The number at a place.
 pub fn number_at(s: &[u8], at: usize) -> Value
-    ensures { result ≡ value_at at (readNumber any (drop at s.now)) }
+    ensures { result ≡ value_at at (read_number any (drop at s.now)) }
 {
     let found = number::read_number(s, at);
     match found {
@@ -36,7 +36,7 @@ pub fn number_at(s: &[u8], at: usize) -> Value
 
 // `len` bytes from a place on, whatever they are.
 pub fn bytes_at(s: &[u8], start: usize, len: usize) -> Part
-    ensures { result ≡ bytes_at start (readBytes any len (drop start s.now)) }
+    ensures { result ≡ bytes_at start (read_bytes any len (drop start s.now)) }
 {
     if slices::left_from(s, start) < len {
         return Part::Fault(BOOK_ENDS);
@@ -49,7 +49,7 @@ pub fn bytes_at(s: &[u8], start: usize, len: usize) -> Part
 
 // The text at a place, whatever its length and its bytes are.
 pub fn text_at(s: &[u8], at: usize) -> Part
-    ensures { result ≡ part_at at (readText any any (drop at s.now)) }
+    ensures { result ≡ part_at at (read_text any any (drop at s.now)) }
 {
     let long = number_at(s, at);
     match long {

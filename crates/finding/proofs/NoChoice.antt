@@ -4,5 +4,5 @@ use Rattle.basics.proofs.Choice.{OneResult}
 use Rattle.finding.proofs.find_live.Kinds as find-live-kinds
 use Rattle.finding.proofs.find_live.Reads as find-live
 
-pub one-find-live : OneResult find-live-kinds.ps find-live-kinds.r find-live.Post
-one-find-live κs a x y s t p q = p.answer ∙ sym q.answer
+pub one_find_live : OneResult find-live-kinds.ps find-live-kinds.r find-live.Post
+one_find_live κs a x y s t p q = p.answer ∙ sym q.answer

@@ -12,47 +12,47 @@ use Rattle.slices.specs.declared.Span.{Span}
 use Rattle.fields.specs.Got.{Got, good}
 use Rattle.header.specs.declared.Cursor.{Cursor}
 use Rattle.entry.specs.declared.Step.TheVariants as step
-use Rattle.entry.specs.Entry.{Entry, entryBytes, read_entry, above}
-use Rattle.book.specs.Book.{readEntries}
-use Rattle.entry.specs.Told.{stepAt}
-use Rattle.entry.proofs.Entry.{entry-law, some-entry}
-use Rattle.entry.proofs.Kind.{step-told, step-fault}
-use Rattle.book.proofs.Entries.{Behind, behind, first_good, none-behind}
+use Rattle.entry.specs.Entry.{Entry, entry_bytes, read_entry, above}
+use Rattle.book.specs.Book.{read_entries}
+use Rattle.entry.specs.Told.{step_at}
+use Rattle.entry.proofs.Entry.{entry_law, some_entry}
+use Rattle.entry.proofs.Kind.{step_told, step_fault}
+use Rattle.book.proofs.Entries.{Behind, behind, first_good, none_behind}
 use Rattle.finding.specs.declared.Place.TheVariants as place
-use Rattle.finding.specs.Finding.{meant, livePlace, placeTold, soughtBy, Sought}
+use Rattle.finding.specs.Finding.{meant, live_place, place_told, sought_by, Sought}
 use Rattle.book.specs.Told.{AllGood}
 
 -- ---- the record that is meant
 pub not_live : (kind : ℕ) (b : Bool) → (kind ≡ 1 → ⊥) → false ≡ (eqb kind 1 && b)
 not_live kind b z = rw (ne_eqb kind 1 z)
 
-pub is_live : (kind : ℕ) (b : Bool) → kind ≡ 1 → b ≡ (eqb kind 1 && b)
-is_live kind b e = rw e
+pub is_live_lem : (kind : ℕ) (b : Bool) → kind ≡ 1 → b ≡ (eqb kind 1 && b)
+is_live_lem kind b e = rw e
 
 -- ---- how far the walk has come
 pub record Seeking (s : List ℕ) (format station from at floor : ℕ) : Type 0 where
   pub es : List Entry
   pub n : ℕ
-  pub reads : readEntries format floor (drop at s) ≡ good es n
-  pub left : placeTold (livePlace format station at es) ≡ placeTold (soughtBy format station from (readEntries format 0 (drop from s)))
+  pub reads : read_entries format floor (drop at s) ≡ good es n
+  pub left : place_told (live_place format station at es) ≡ place_told (sought_by format station from (read_entries format 0 (drop from s)))
 
-pub seek-start : (s : List ℕ) (format station from : ℕ) → AllGood (readEntries format 0 (drop from s)) → Seeking s format station from from 0
-seek-start s format station from x = record { es = x.es; n = x.n; reads = x.is; left = ap (λ (y : Got (List Entry)). placeTold (soughtBy format station from y)) (sym x.is) }
+pub seek_start : (s : List ℕ) (format station from : ℕ) → AllGood (read_entries format 0 (drop from s)) → Seeking s format station from from 0
+seek_start s format station from x = record { es = x.es; n = x.n; reads = x.is; left = ap (λ (y : Got (List Entry)). place_told (sought_by format station from y)) (sym x.is) }
 
 no_place : {B : Type 0} (f p : ℕ) → place.Fault f ≡ place.At p → B
 no_place f p e = let z : ◌≡◌ {A = ℕ} 0 1 = cc in absurd (omega arith)
 
 module _ (s : List ℕ) (format station from at floor : ℕ) (x : Seeking s format station from at floor) where
-  pub seek-none : length s ≤ at → Sought s format station from (place.Fault 11)
-  seek-none h =
-      let z : x.es ≡ [] = none-behind format floor (drop at s) x.es x.n (omega (arith, length-drop at s)) x.reads in
-      record { answer = sym (ap (λ (y : List Entry). placeTold (livePlace format station at y)) z) ∙ x.left; inside = λ p e. no_place 11 p e }
+  pub seek_none : length s ≤ at → Sought s format station from (place.Fault 11)
+  seek_none h =
+      let z : x.es ≡ [] = none_behind format floor (drop at s) x.es x.n (omega (arith, length-drop at s)) x.reads in
+      record { answer = sym (ap (λ (y : List Entry). place_told (live_place format station at y)) z) ∙ x.left; inside = λ p e. no_place 11 p e }
 
   module _ (h : at < length s) where
-    pub seek-never : {B : Type 0} (f : ℕ) → stepAt format at (read_entry format floor (drop at s)) ≡ step.Fault f → B
-    seek-never f p = first_good format floor (drop at s) f x.es x.n (omega (arith, length-drop at s)) (step-fault format at f (read_entry format floor (drop at s)) p) x.reads
+    pub seek_never : {B : Type 0} (f : ℕ) → step_at format at (read_entry format floor (drop at s)) ≡ step.Fault f → B
+    seek_never f p = first_good format floor (drop at s) f x.es x.n (omega (arith, length-drop at s)) (step_fault format at f (read_entry format floor (drop at s)) p) x.reads
 
-    module _ (v : ℕ) (sn sp sa : Span) (cur : Cursor) (k : ℕ) (p : stepAt format at (read_entry format floor (drop at s)) ≡ step.Record v sn sp sa cur k) where
+    module _ (v : ℕ) (sn sp sa : Span) (cur : Cursor) (k : ℕ) (p : step_at format at (read_entry format floor (drop at s)) ≡ step.Record v sn sp sa cur k) where
       pub record Passing : Type 0 where
         pub e : Entry
         pub es' : List Entry
@@ -60,41 +60,41 @@ module _ (s : List ℕ) (format station from at floor : ℕ) (x : Seeking s form
         pub all : x.es ≡ e ∷ es'
         pub rises : at < cur.at
         pub within : cur.at ≤ length s
-        pub place : cur.at ≡ at + length (entryBytes format e)
+        pub place : cur.at ≡ at + length (entry_bytes format e)
         pub meets : (eqb k 1 && eqb v station) ≡ meant station e
-        pub reads : readEntries format cur.floor (drop cur.at s) ≡ good es' m
+        pub reads : read_entries format cur.floor (drop cur.at s) ≡ good es' m
 
       pub passing : Passing
       passing =
-          let t = step-told format at v sn sp sa cur k (read_entry format floor (drop at s)) p in
-          let u : t.n ≡ length (entryBytes format t.e) = (entry-law format floor).used (drop at s) t.e t.n t.is in
-          let w : t.n ≤ length (drop at s) = (entry-law format floor).within (drop at s) t.e t.n t.is in
+          let t = step_told format at v sn sp sa cur k (read_entry format floor (drop at s)) p in
+          let u : t.n ≡ length (entry_bytes format t.e) = (entry_law format floor).used (drop at s) t.e t.n t.is in
+          let w : t.n ≤ length (drop at s) = (entry_law format floor).within (drop at s) t.e t.n t.is in
           let y : Behind format (drop at s) t.e t.n x.es = behind format floor (drop at s) t.e t.n x.es x.n t.is x.reads in
           record {
             e = t.e;
             es' = y.es';
             m = y.m;
             all = y.all;
-            rises = omega (arith, t.place, some-entry format t.e);
+            rises = omega (arith, t.place, some_entry format t.e);
             within = omega (arith, t.place, length-drop at s);
             place = omega (arith, t.place, u);
             meets = λ i. eqb (t.kind i) 1 && eqb (t.station i) station;
-            reads = (λ i. readEntries format (t.floor i) (drop (t.place i) s)) ∙ ap (readEntries format (above t.e)) (sym (drop-drop t.n at s)) ∙ y.is;
+            reads = (λ i. read_entries format (t.floor i) (drop (t.place i) s)) ∙ ap (read_entries format (above t.e)) (sym (drop-drop t.n at s)) ∙ y.is;
           }
 
       pub seek_hit : (eqb k 1 && eqb v station) ≡ true → Sought s format station from (place.At at)
       seek_hit b =
           let t : Passing = passing in
-          let c : placeTold (livePlace format station at (t.e ∷ t.es')) ≡ place.At at = ap (λ (j : Bool). placeTold (cond j (good at 1) (livePlace format station (at + length (entryBytes format t.e)) t.es'))) (sym t.meets ∙ b) in
+          let c : place_told (live_place format station at (t.e ∷ t.es')) ≡ place.At at = ap (λ (j : Bool). place_told (cond j (good at 1) (live_place format station (at + length (entry_bytes format t.e)) t.es'))) (sym t.meets ∙ b) in
           record {
-            answer = sym c ∙ sym (ap (λ (y : List Entry). placeTold (livePlace format station at y)) t.all) ∙ x.left;
+            answer = sym c ∙ sym (ap (λ (y : List Entry). place_told (live_place format station at y)) t.all) ∙ x.left;
             inside = λ q e. let z : at ≡ q = cc in omega arith;
           }
 
-      pub seek-on : (eqb k 1 && eqb v station) ≡ false → Seeking s format station from cur.at cur.floor
-      seek-on b =
+      pub seek_on : (eqb k 1 && eqb v station) ≡ false → Seeking s format station from cur.at cur.floor
+      seek_on b =
           let t : Passing = passing in
-          let c : placeTold (livePlace format station at (t.e ∷ t.es')) ≡ placeTold (livePlace format station cur.at t.es') =
-          ap (λ (j : Bool). placeTold (cond j (good at 1) (livePlace format station (at + length (entryBytes format t.e)) t.es'))) (sym t.meets ∙ b)
-          ∙ ap (λ (j : ℕ). placeTold (livePlace format station j t.es')) (sym t.place) in
-          record { es = t.es'; n = t.m; reads = t.reads; left = sym c ∙ sym (ap (λ (y : List Entry). placeTold (livePlace format station at y)) t.all) ∙ x.left }
+          let c : place_told (live_place format station at (t.e ∷ t.es')) ≡ place_told (live_place format station cur.at t.es') =
+          ap (λ (j : Bool). place_told (cond j (good at 1) (live_place format station (at + length (entry_bytes format t.e)) t.es'))) (sym t.meets ∙ b)
+          ∙ ap (λ (j : ℕ). place_told (live_place format station j t.es')) (sym t.place) in
+          record { es = t.es'; n = t.m; reads = t.reads; left = sym c ∙ sym (ap (λ (y : List Entry). place_told (live_place format station at y)) t.all) ∙ x.left }

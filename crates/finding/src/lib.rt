@@ -1,6 +1,6 @@
 // The live record of a station found, in a book whose records read.
 ghost use Rattle.std.specs.Prelude.{◌≡◌, ◌&&◌, eqb, drop};
-ghost use Rattle.book.specs.Book.{readEntries};
+ghost use Rattle.book.specs.Book.{read_entries};
 ghost use Rattle.book.specs.Told.{AllGood};
 ghost use Rattle.finding.specs.Finding.{Sought};
 
@@ -26,7 +26,7 @@ fn is_meant(kind: u32, here: u32, station: u64) -> bool
 
 // Where the kind of the live record of a station stands, in a book whose records read; 11 for none.
 pub fn find_live(s: &[u8], from: usize, format: u32, station: u64) -> Place
-    requires { AllGood (readEntries format 0 (drop from s.now)) }
+    requires { AllGood (read_entries format 0 (drop from s.now)) }
     ensures { Sought s.now format station from result }
 {
     let mut at = from;

@@ -8,10 +8,10 @@ use Rattle.fitting.proofs.add_coded.Kinds as add-coded-kinds
 use Rattle.fitting.proofs.add_coded.Reads as add-coded
 use contract.Lifetimes.{Lfts}
 
-pub one-add-coded : OneResult add-coded-kinds.ps add-coded-kinds.r add-coded.Post
-one-add-coded κs a x y s t p q = p.answer ∙ sym q.answer
+pub one_add_coded : OneResult add-coded-kinds.ps add-coded-kinds.r add-coded.Post
+one_add_coded κs a x y s t p q = p.answer ∙ sym q.answer
 
 -- the room at exit
 module _ (κs : Lfts 4) (a : Dens κs add-coded-kinds.ps) (x y : (res_t add-coded-kinds.r κs).Denot) (s t : AtExit (ended_of 4 add-coded-kinds.ps add-coded-kinds.r) κs) where
-  pub one-add-coded-room : add-coded.Post κs a x s → add-coded.Post κs a y t → s.0.now ≡ t.0.now
-  one-add-coded-room p q = p.leaves ∙ sym q.leaves
+  pub one_add_coded_room : add-coded.Post κs a x s → add-coded.Post κs a y t → s.0.now ≡ t.0.now
+  one_add_coded_room p q = p.leaves ∙ sym q.leaves

@@ -1,7 +1,7 @@
 // A record whose codes are made, fitted into a station key book that was read, in lent room: behind its end, or, where it does not fit there,
 // behind the book closed up. A refusal changes nothing.
 ghost use Rattle.std.specs.Prelude.{◌≤◌, length};
-ghost use Rattle.terms.specs.Limits.{wordLimit, codeRoom};
+ghost use Rattle.terms.specs.Limits.{word_limit, code_room};
 ghost use Rattle.fitting.specs.Base.{Stands, CodedAdded};
 
 use book::Measure;
@@ -23,7 +23,7 @@ pub fn add_coded(
     primary: &[u8],
     alternate: &[u8],
 ) -> Made
-    requires { Stands room.old len header first measure × (length name.now ≤ wordLimit) × (length primary.now ≤ codeRoom) × (length alternate.now ≤ codeRoom) }
+    requires { Stands room.old len header first measure × (length name.now ≤ word_limit) × (length primary.now ≤ code_room) × (length alternate.now ≤ code_room) }
     ensures { CodedAdded room.old len station name.now primary.now alternate.now result room.new }
 {
     if LARGEST < station {

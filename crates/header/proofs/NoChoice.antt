@@ -8,11 +8,11 @@ use Rattle.header.proofs.unknown_fault.Reads as unknown-fault
 use Rattle.header.proofs.limit_of.Kinds as limit-of-kinds
 use Rattle.header.proofs.limit_of.Reads as limit-of
 
-pub one-open : OneResult open-kinds.ps open-kinds.r opens.Post
-one-open κs a x y s t p q = p ∙ sym q
+pub one_open : OneResult open-kinds.ps open-kinds.r opens.Post
+one_open κs a x y s t p q = p ∙ sym q
 
-pub one-unknown-fault : OneResult unknown-fault-kinds.ps unknown-fault-kinds.r unknown-fault.Post
-one-unknown-fault κs a x y s t p q = p ∙ sym q
+pub one_unknown_fault : OneResult unknown-fault-kinds.ps unknown-fault-kinds.r unknown-fault.Post
+one_unknown_fault κs a x y s t p q = p ∙ sym q
 
-pub one-limit-of : OneResult limit-of-kinds.ps limit-of-kinds.r limit-of.Post
-one-limit-of κs a x y s t p q = p ∙ sym q
+pub one_limit_of : OneResult limit-of-kinds.ps limit-of-kinds.r limit-of.Post
+one_limit_of κs a x y s t p q = p ∙ sym q

@@ -1,9 +1,9 @@
 -- The header of a station key book, after requests L1 and L7: format, edition and cut; how it is written, and what reading it gives.
 use Rattle.std.specs.Prelude.{ℕ, ◌+◌, zero, suc, cond, List, ◌++◌, leb, eqb}
-use Rattle.terms.specs.Refusals.{notKnown}
-use Rattle.fields.specs.Got.{readBoth, mapped, Got, good, bad, Both}
-use Rattle.fields.specs.Field.{number, readNumber, any}
-use Rattle.terms.specs.Editions.{lastEdition, lastFormat}
+use Rattle.terms.specs.Refusals.{not_known}
+use Rattle.fields.specs.Got.{read_both, mapped, Got, good, bad, Both}
+use Rattle.fields.specs.Field.{number, read_number, any}
+use Rattle.terms.specs.Editions.{last_edition, last_format}
 use Rattle.header.specs.declared.Opened.{Opened}
 use Rattle.header.specs.declared.Header.{Header}
 use Rattle.terms.specs.declared.Limit.{Limit}
@@ -11,36 +11,36 @@ use Rattle.terms.specs.declared.Limit.TheVariants.{Whole, At}
 use Rattle.header.specs.declared.Opened.TheVariants as opened
 
 -- ---- writing
-unfoldable pub headerBytes : Header → List ℕ
-headerBytes h = number h.format ++ (number h.edition ++ number h.cut)
+unfoldable pub header_bytes : Header → List ℕ
+header_bytes h = number h.format ++ (number h.edition ++ number h.cut)
 
 -- ---- judges: 0, or the fault that the last byte of a number, or a byte of a name, shows
 -- a format or an edition, of those from `least` to `most`
 abbrev pub known : ℕ → ℕ → ℕ → ℕ
-known least most v = cond (leb least v) (cond (leb v most) 0 notKnown) notKnown
+known least most v = cond (leb least v) (cond (leb v most) 0 not_known) not_known
 
 -- the formats that are taken, from the least of them on: every reader takes those from 1 on, a close those from 2 on
 abbrev pub formats : ℕ → ℕ → ℕ
-formats least v = known least lastFormat v
+formats least v = known least last_format v
 
 abbrev pub editions : ℕ → ℕ
-editions v = known 1 lastEdition v
+editions v = known 1 last_edition v
 
 -- ---- reading, at the front of a list
-abbrev pub headerOf : Both ℕ (Both ℕ ℕ) → Header
-headerOf p = record { format = p.front; edition = p.behind.front; cut = p.behind.behind }
+abbrev pub header_of : Both ℕ (Both ℕ ℕ) → Header
+header_of p = record { format = p.front; edition = p.behind.front; cut = p.behind.behind }
 
 -- under a judge of its format
-unfoldable pub readHeaderBy : (ℕ → ℕ) → List ℕ → Got Header
-readHeaderBy format l = mapped headerOf (readBoth (readNumber format) (readBoth (readNumber editions) (readNumber any)) l)
+unfoldable pub read_header_by : (ℕ → ℕ) → List ℕ → Got Header
+read_header_by format l = mapped header_of (read_both (read_number format) (read_both (read_number editions) (read_number any)) l)
 
 -- a book of any known format
-abbrev pub readHeader : List ℕ → Got Header
-readHeader l = readHeaderBy (formats 1) l
+abbrev pub read_header : List ℕ → Got Header
+read_header l = read_header_by (formats 1) l
 
-abbrev pub openedBy : Got Header → Opened
-openedBy (good h n) = opened.Book h (record { at = n; floor = 0 })
-openedBy (bad f) = opened.Fault f
+abbrev pub opened_by : Got Header → Opened
+opened_by (good h n) = opened.Book h (record { at = n; floor = 0 })
+opened_by (bad f) = opened.Fault f
 
 -- the first fault of two
 abbrev pub first : ℕ → ℕ → ℕ
@@ -55,6 +55,6 @@ abbrev pub cut_of : Limit → ℕ
 cut_of Whole = 0
 cut_of (At n) = n + 1
 
-abbrev pub limitOf : ℕ → Limit
-limitOf zero = Whole
-limitOf (suc n) = At n
+abbrev pub limit_of : ℕ → Limit
+limit_of zero = Whole
+limit_of (suc n) = At n

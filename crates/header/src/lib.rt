@@ -1,9 +1,9 @@
 // The header of a station key book, read: format, edition and cut. A fault is document 02's number: 5 a number in a bad form, 6 the book ends
 // inside it, 7 unknown format or edition.
 ghost use Rattle.std.specs.Prelude.{◌≡◌, drop};
-ghost use Rattle.fields.specs.Field.{readNumber};
+ghost use Rattle.fields.specs.Field.{read_number};
 ghost use Rattle.fields.specs.Told.{value_at};
-ghost use Rattle.header.specs.Head.{known, formats, readHeaderBy, openedBy, unknown, limitOf};
+ghost use Rattle.header.specs.Head.{known, formats, read_header_by, opened_by, unknown, limit_of};
 
 use fields::Value;
 use terms::{EDITIONS, FORMATS, Limit, NOT_KNOWN};
@@ -54,7 +54,7 @@ pub fn unknown_fault(format: u32, edition: u32) -> u8
 }
 
 fn known_at(s: &[u8], at: usize, least: u32, most: u32) -> Value
-    ensures { result ≡ value_at at (readNumber (known least most) (drop at s.now)) }
+    ensures { result ≡ value_at at (read_number (known least most) (drop at s.now)) }
 {
     let found = fields::number_at(s, at);
     match found {
@@ -71,7 +71,7 @@ fn known_at(s: &[u8], at: usize, least: u32, most: u32) -> Value
 
 // The header of a book of a format from `least` on, and a cursor at its first record.
 pub fn open(s: &[u8], least: u32) -> Opened
-    ensures { result ≡ openedBy (readHeaderBy (formats least) s.now) }
+    ensures { result ≡ opened_by (read_header_by (formats least) s.now) }
 {
     let first = known_at(s, 0, least, FORMATS);
     match first {
@@ -107,7 +107,7 @@ pub fn open(s: &[u8], least: u32) -> Opened
 
 // The limit that a cut stands for.
 pub fn limit_of(cut: u32) -> Limit
-    ensures { result ≡ limitOf cut }
+    ensures { result ≡ limit_of cut }
 {
     if cut == 0 {
         return Limit::Whole;

@@ -11,12 +11,12 @@ use lib.ListN.{length, get_or}
 use Rattle.number.specs.Septets.{Bytes}
 use Rattle.chosen.specs.declared.Choice.{Choice}
 use Rattle.fields.specs.Got.{good}
-use Rattle.entry.specs.Entry.{Entry, above, isLive}
-use Rattle.book.specs.Book.{Book, readBook, live}
-use Rattle.book_laws.proofs.Good.{book-only}
-use Rattle.matching.proofs.Order.{Rises, none, more, Rising, end, next, pairs-rise}
+use Rattle.entry.specs.Entry.{Entry, above, is_live}
+use Rattle.book.specs.Book.{Book, read_book, live}
+use Rattle.book_laws.proofs.Good.{book_only}
+use Rattle.matching.proofs.Order.{Rises, none, more, Rising, end, next, pairs_rise}
 use Rattle.matching.specs.Pairs.{Coded}
-use Rattle.two_books.specs.Sides.{bodies, standing, codedAll, join_of, limitsOf}
+use Rattle.two_books.specs.Sides.{bodies, standing, coded_all, join_of, limits_of}
 use Rattle.join_laws.specs.Order.{Before, InOrder, Once}
 use Rattle.book_laws.specs.Good as book
 
@@ -51,23 +51,23 @@ lower : {s t : ℕ} {xs : List Coded} → s ≤ t → Rises t xs → Rises s xs
 lower h none = none
 lower {s} h (more {y = y} g r) = let k : s ≤ y.station = omega arith in more k r
 
-rises : (c : Choice) (format : ℕ) {floor : ℕ} (es : List Entry) → book.GoodRecords format floor es → Rises floor (codedAll c (standing es))
-unfolding codedAll
+rises : (c : Choice) (format : ℕ) {floor : ℕ} (es : List Entry) → book.GoodRecords format floor es → Rises floor (coded_all c (standing es))
+unfolding coded_all
 rises c format [] book.none = none
-rises c format {floor} (e ∷ es) (book.more x xs) = go (isLive e) (rises c format es xs)
+rises c format {floor} (e ∷ es) (book.more x xs) = go (is_live e) (rises c format es xs)
   where
-    go : (t : Bool) → Rises (above e) (codedAll c (standing es)) → Rises floor (codedAll c (bodies (cond t (e ∷ live es) (live es))))
-    go true ih = more x.body.rises (subst (λ (k : ℕ). Rises k (codedAll c (standing es))) (add-one e.body.station) ih)
+    go : (t : Bool) → Rises (above e) (coded_all c (standing es)) → Rises floor (coded_all c (bodies (cond t (e ∷ live es) (live es))))
+    go true ih = more x.body.rises (subst (λ (k : ℕ). Rises k (coded_all c (standing es))) (add-one e.body.station) ih)
     go false ih = lower (omega (arith, x.body.rises)) ih
 
-module _ (c : Choice) (l k : List ℕ) (bl : Bytes l) (bk : Bytes k) (x y : Book) (n j : ℕ) (e : readBook l ≡ good x n) (f : readBook k ≡ good y j) where
-  pub join-rises : Rising 0 0 (join_of c x y)
-  join-rises = pairs-rise (limitsOf x y) (rises c x.header.format x.records (book-only l bl x n e).records) (rises c y.header.format y.records (book-only k bk y j f).records)
+module _ (c : Choice) (l k : List ℕ) (bl : Bytes l) (bk : Bytes k) (x y : Book) (n j : ℕ) (e : read_book l ≡ good x n) (f : read_book k ≡ good y j) where
+  pub join_rises : Rising 0 0 (join_of c x y)
+  join_rises = pairs_rise (limits_of x y) (rises c x.header.format x.records (book_only l bl x n e).records) (rises c y.header.format y.records (book_only k bk y j f).records)
 
   -- "ordered by the first book's station, then the second's"
-  pub join-in-order : InOrder (join_of c x y)
-  join-in-order = placed join-rises
+  pub join_in_order : InOrder (join_of c x y)
+  join_in_order = placed join_rises
 
   -- "each pair join-once"
-  pub join-once : Once (join_of c x y)
-  join-once u v h b d = differ (get_or (join_of c x y) u (0, 0)) (get_or (join_of c x y) v (0, 0)) (join-in-order u v h b) d
+  pub join_once : Once (join_of c x y)
+  join_once u v h b d = differ (get_or (join_of c x y) u (0, 0)) (get_or (join_of c x y) v (0, 0)) (join_in_order u v h b) d

@@ -1,15 +1,15 @@
 -- Books whose live records' codes are right for their names, and the records that encoding all names afresh gives: what the theorem of request L3
--- speaks of, `join-afresh` of proofs/Afresh.antt.
+-- speaks of, `join_afresh` of proofs/Afresh.antt.
 use Rattle.std.specs.Prelude.{◌≡◌, List, [], ◌∷◌}
 use Rattle.terms.specs.declared.Edition.{Edition}
 use Rattle.terms.specs.declared.Limit.{Limit}
 use Rattle.chosen.specs.declared.Choice.{Choice}
 use Rattle.chosen.specs.declared.Choice.TheVariants.{Primary, Alternate}
-use Rattle.terms.specs.Editions.{editionOf}
+use Rattle.terms.specs.Editions.{edition_of}
 use Rattle.demands.specs.Code.{code_of}
 use Rattle.entry.specs.Entry.{Record}
 use Rattle.book.specs.Book.{Book}
-use Rattle.header.specs.Head.{limitOf}
+use Rattle.header.specs.Head.{limit_of}
 use Rattle.matching.specs.Pairs.{Coded}
 use Rattle.two_books.specs.Sides.{standing}
 
@@ -22,12 +22,12 @@ abbrev pub AllRight : Edition → Limit → List Record → Type 0
 AllRight ed l [] = Unit {0}
 AllRight ed l (r ∷ rs) = RightUnder ed l r × AllRight ed l rs
 
-abbrev pub editionIn : Book → Edition
-editionIn b = editionOf b.header.edition
+abbrev pub edition_in : Book → Edition
+edition_in b = edition_of b.header.edition
 
 -- a book whose live records' codes are right under its own edition and cut
 abbrev pub RightCodes : Book → Type 0
-RightCodes b = AllRight (editionIn b) (limitOf b.header.cut) (standing b.records)
+RightCodes b = AllRight (edition_in b) (limit_of b.header.cut) (standing b.records)
 
 -- what a join sees of records whose names are encoded now, whatever codes are stored
 unfoldable pub freshly : Edition → Limit → Choice → List Record → List Coded

@@ -5,7 +5,7 @@ use Rattle.chosen.specs.declared.Choice.{Choice}
 use Rattle.entry.specs.Entry.{Entry}
 use Rattle.book.specs.Book.{Book}
 use Rattle.matching.specs.Cut.{clip}
-use Rattle.two_books.specs.Sides.{chosenCode, limitsOf}
+use Rattle.two_books.specs.Sides.{chosen_code, limits_of}
 
 -- by the first number, then by the second
 abbrev pub Before : ℕ × ℕ → ℕ × ℕ → Type 0
@@ -27,10 +27,10 @@ In a l = Memᴰ a l
 pub record Agree (c : Choice) (x y : Book) (s t : ℕ) : Type 0 where
   pub first : Entry
   pub second : Entry
-  pub in-first : In first x.records
-  pub in-second : In second y.records
-  pub live-first : first.kind ≡ 1
-  pub live-second : second.kind ≡ 1
+  pub in_first : In first x.records
+  pub in_second : In second y.records
+  pub live_first : first.kind ≡ 1
+  pub live_second : second.kind ≡ 1
   pub left : s ≡ first.body.station
   pub right : t ≡ second.body.station
-  pub codes : clip (limitsOf x y) (chosenCode c first.body) ≡ clip (limitsOf x y) (chosenCode c second.body)
+  pub codes : clip (limits_of x y) (chosen_code c first.body) ≡ clip (limits_of x y) (chosen_code c second.body)

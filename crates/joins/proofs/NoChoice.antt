@@ -13,24 +13,24 @@ use contract.Lifetimes.{Lfts}
 
 -- the join's: the number of words is a result; the scratch at exit is the fourth, the room the fifth, the answer the sixth
 module _ (κs : Lfts 0) (a : Dens κs join-scratch-kinds.ps) (x y : (res_t join-scratch-kinds.r κs).Denot) (s t : AtExit (ended_of 0 join-scratch-kinds.ps join-scratch-kinds.r) κs) where
-  pub one-words : join-scratch.Post κs a x s → join-scratch.Post κs a y t → x ≡ y
-  one-words p q = p ∙ sym q
+  pub one_words : join-scratch.Post κs a x s → join-scratch.Post κs a y t → x ≡ y
+  one_words p q = p ∙ sym q
 
 module _ (κs : Lfts 4) (a : Dens κs join-count-kinds.ps) (x y : (res_t join-count-kinds.r κs).Denot) (s t : AtExit (ended_of 4 join-count-kinds.ps join-count-kinds.r) κs)
     (p : join-count.Post κs a x s) (q : join-count.Post κs a y t) where
-  pub one-count-numbers : s.1.1.1.1.1.0.now ≡ t.1.1.1.1.1.0.now
-  one-count-numbers = p.0 ∙ sym q.0
+  pub one_count_numbers : s.1.1.1.1.1.0.now ≡ t.1.1.1.1.1.0.now
+  one_count_numbers = p.0 ∙ sym q.0
 
-  pub one-count-scratch : s.1.1.1.0.now ≡ t.1.1.1.0.now
-  one-count-scratch = p.1 ∙ sym q.1
+  pub one_count_scratch : s.1.1.1.0.now ≡ t.1.1.1.0.now
+  one_count_scratch = p.1 ∙ sym q.1
 
 module _ (κs : Lfts 5) (a : Dens κs join-kinds.ps) (x y : (res_t join-kinds.r κs).Denot) (s t : AtExit (ended_of 5 join-kinds.ps join-kinds.r) κs)
     (p : join.Post κs a x s) (q : join.Post κs a y t) where
-  pub one-join-numbers : s.1.1.1.1.1.0.now ≡ t.1.1.1.1.1.0.now
-  one-join-numbers = p.0 ∙ sym q.0
+  pub one_join_numbers : s.1.1.1.1.1.0.now ≡ t.1.1.1.1.1.0.now
+  one_join_numbers = p.0 ∙ sym q.0
 
-  pub one-join-room : s.1.1.1.1.0.now ≡ t.1.1.1.1.0.now
-  one-join-room = p.1.0 ∙ sym q.1.0
+  pub one_join_room : s.1.1.1.1.0.now ≡ t.1.1.1.1.0.now
+  one_join_room = p.1.0 ∙ sym q.1.0
 
-  pub one-join-scratch : s.1.1.1.0.now ≡ t.1.1.1.0.now
-  one-join-scratch = p.1.1 ∙ sym q.1.1
+  pub one_join_scratch : s.1.1.1.0.now ≡ t.1.1.1.0.now
+  one_join_scratch = p.1.1 ∙ sym q.1.1

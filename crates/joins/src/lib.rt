@@ -1,17 +1,17 @@
 // The C face of the join of two station key books, on numbers and slices of numbers only.
 ghost use Rattle.std.specs.Prelude.{◌≡◌, length};
-ghost use Rattle.book.specs.Book.{readBook};
-ghost use Rattle.scratch.specs.Scratch.{wordsTold};
-ghost use Rattle.join.specs.Join.{countBy, joinBy, roomBy, scratchBy};
+ghost use Rattle.book.specs.Book.{read_book};
+ghost use Rattle.scratch.specs.Scratch.{words_told};
+ghost use Rattle.join.specs.Join.{count_by, join_by, room_by, scratch_by};
 ghost use Rattle.asking.specs.Asked.{choice_of};
-ghost use Rattle.telling_books.specs.Numbers.{joinedNumbers};
+ghost use Rattle.telling_books.specs.Numbers.{joined_numbers};
 
 use asking::choice_of;
 
 // How many scratch words the join of books with so many records needs; the largest number where that does not fit.
 #[unsafe(no_mangle)]
 pub extern "C" fn simmerquilt_join_scratch(first: usize, second: usize) -> usize
-    ensures { result ≡ wordsTold first second }
+    ensures { result ≡ words_told first second }
 {
     scratch::scratch_words(first, second)
 }
@@ -26,8 +26,8 @@ pub extern "C" fn simmerquilt_join_count(
     most: u64,
     out: &mut [u64; 2],
 )
-    ensures told { out.new ≡ joinedNumbers (countBy (choice_of alternate) (length scratch.old) most (readBook first.now) (readBook second.now)) }
-    ensures scratch { scratch.new ≡ scratchBy scratch.old (readBook first.now) (readBook second.now) }
+    ensures told { out.new ≡ joined_numbers (count_by (choice_of alternate) (length scratch.old) most (read_book first.now) (read_book second.now)) }
+    ensures scratch { scratch.new ≡ scratch_by scratch.old (read_book first.now) (read_book second.now) }
 {
     let counted = join::count(first, second, choice_of(alternate), scratch, most as usize);
     telling_books::tell_joined(counted, out);
@@ -43,9 +43,9 @@ pub extern "C" fn simmerquilt_join(
     room: &mut [u32],
     out: &mut [u64; 2],
 )
-    ensures told { out.new ≡ joinedNumbers (joinBy (choice_of alternate) (length scratch.old) (length room.old) (readBook first.now) (readBook second.now)) }
-    ensures room { room.new ≡ roomBy (choice_of alternate) (length scratch.old) room.old (readBook first.now) (readBook second.now) }
-    ensures scratch { scratch.new ≡ scratchBy scratch.old (readBook first.now) (readBook second.now) }
+    ensures told { out.new ≡ joined_numbers (join_by (choice_of alternate) (length scratch.old) (length room.old) (read_book first.now) (read_book second.now)) }
+    ensures room { room.new ≡ room_by (choice_of alternate) (length scratch.old) room.old (read_book first.now) (read_book second.now) }
+    ensures scratch { scratch.new ≡ scratch_by scratch.old (read_book first.now) (read_book second.now) }
 {
     let joined = join::join(first, second, choice_of(alternate), scratch, room);
     telling_books::tell_joined(joined, out);

@@ -7,11 +7,11 @@ use native.Mathlib.Omega.{arith}
 use borrow.Author.Tests.{ltb-true, ltb-false, eqb-true}
 use lib.Dec.{ltb, eqb}
 use lib.ListN.{length}
-use Rattle.terms.specs.Limits.{wordLimit}
-use Rattle.ascii.specs.High.{firstHigh}
+use Rattle.terms.specs.Limits.{word_limit}
+use Rattle.ascii.specs.High.{first_high}
 use Rattle.putting.specs.declared.Made.TheVariants.{Length, Fault}
 use Rattle.putting.specs.Laid.{placed}
-use Rattle.keying.specs.Keyed.{newFault}
+use Rattle.keying.specs.Keyed.{new_fault}
 
 -- ---- bytes that were laid down
 pub record Laid (fault room at : ℕ) (bytes : List ℕ) (m : ℕ) : Type 0 where
@@ -19,8 +19,8 @@ pub record Laid (fault room at : ℕ) (bytes : List ℕ) (m : ℕ) : Type 0 wher
   pub fits : at + length bytes ≤ room
   pub long : at + length bytes ≡ m
 
-pub was-laid : (fault room at : ℕ) (bytes : List ℕ) (m : ℕ) → placed fault room at bytes ≡ Length m → Laid fault room at bytes m
-was-laid fault room at bytes m e = go (eqb fault 0) refl (ltb room (at + length bytes)) refl e
+pub was_laid : (fault room at : ℕ) (bytes : List ℕ) (m : ℕ) → placed fault room at bytes ≡ Length m → Laid fault room at bytes m
+was_laid fault room at bytes m e = go (eqb fault 0) refl (ltb room (at + length bytes)) refl e
   where
     go : (t : Bool) → eqb fault 0 ≡ t → (q : Bool) → ltb room (at + length bytes) ≡ q → cond t (cond q (Fault 9) (Length (at + length bytes))) (Fault fault) ≡ Length m → Laid fault room at bytes m
     go false d q f e = let z : ◌≡◌ {A = ℕ} 0 1 = cc in absurd (omega arith)
@@ -29,15 +29,15 @@ was-laid fault room at bytes m e = go (eqb fault 0) refl (ltb room (at + length 
 
 -- a new record that has no fault
 pub record Sound (floor station : ℕ) (name : List ℕ) : Type 0 where
-  pub short : length name ≤ wordLimit
-  pub ascii : length name ≤ firstHigh name
+  pub short : length name ≤ word_limit
+  pub ascii : length name ≤ first_high name
   pub small : station < 2 ^ 28
   pub rises : floor ≤ station
 
-pub sound : (floor station : ℕ) (name : List ℕ) → newFault floor station name ≡ 0 → Sound floor station name
-sound floor station name e = go (ltb wordLimit (length name)) refl (ltb (firstHigh name) (length name)) refl (ltb station (2 ^ 28)) refl (ltb station floor) refl e
+pub sound : (floor station : ℕ) (name : List ℕ) → new_fault floor station name ≡ 0 → Sound floor station name
+sound floor station name e = go (ltb word_limit (length name)) refl (ltb (first_high name) (length name)) refl (ltb station (2 ^ 28)) refl (ltb station floor) refl e
   where
-    go : (p : Bool) → ltb wordLimit (length name) ≡ p → (q : Bool) → ltb (firstHigh name) (length name) ≡ q → (r : Bool) → ltb station (2 ^ 28) ≡ r → (s : Bool) → ltb station floor ≡ s
+    go : (p : Bool) → ltb word_limit (length name) ≡ p → (q : Bool) → ltb (first_high name) (length name) ≡ q → (r : Bool) → ltb station (2 ^ 28) ≡ r → (s : Bool) → ltb station floor ≡ s
         → ◌≡◌ {A = ℕ} (cond p 1 (cond q 2 (cond r (cond s 8 0) 5))) 0 → Sound floor station name
     go true dp q dq r dr s ds e = absurd (omega arith)
     go false dp true dq r dr s ds e = absurd (omega arith)

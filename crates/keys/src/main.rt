@@ -1,6 +1,6 @@
 // The line reader: reads standard input in blocks, and writes for each line what `lines` makes of it.
 ghost use Rattle.std.specs.Prelude.{◌≤◌, length};
-ghost use Rattle.line.specs.Line.{lineRoom};
+ghost use Rattle.line.specs.Line.{line_room};
 
 use libc::{STDERR_FILENO, STDIN_FILENO, STDOUT_FILENO};
 use line::LINE_ROOM;
@@ -25,7 +25,7 @@ fn put(bytes: &[u8]) -> bool {
 
 // Feeds a block, and writes what that gives each time that `out` is full and at the block's end, so that no line waits for the next read.
 fn drain(block: &[u8], word: &mut [u8; WORD_LIMIT], held: usize, out: &mut [u8]) -> Turn
-    requires { lineRoom ≤ length out.old }
+    requires { line_room ≤ length out.old }
 {
     let mut at = 0;
     let mut count = held;
@@ -52,7 +52,7 @@ fn drain(block: &[u8], word: &mut [u8; WORD_LIMIT], held: usize, out: &mut [u8])
 
 // Reads once, and feeds what came. A read may give fewer bytes than there is room for; it gives none at the end of the input.
 fn read_once(block: &mut [u8], word: &mut [u8; WORD_LIMIT], held: usize, out: &mut [u8]) -> Turn
-    requires { lineRoom ≤ length out.old }
+    requires { line_room ≤ length out.old }
 {
     let got = libc::read(STDIN_FILENO, block);
     if got == 0 {
@@ -76,7 +76,7 @@ fn read_once(block: &mut [u8], word: &mut [u8; WORD_LIMIT], held: usize, out: &m
 
 // Reads to the end. Nothing says that the input ends, so the turns are counted down from a number that no run uses up.
 fn read_all(block: &mut [u8], word: &mut [u8; WORD_LIMIT], out: &mut [u8]) -> Turn
-    requires { lineRoom ≤ length out.old }
+    requires { line_room ≤ length out.old }
 {
     let mut turn = Turn {
         held: 0,

@@ -6,5 +6,5 @@ use Rattle.basics.proofs.Choice.{OneResult}
 use Rattle.letters.proofs.visit_at.Kinds as visit-at-kinds
 use Rattle.letters.proofs.visit_at.Reads as visit-at
 
-pub one-visit-at : OneResult visit-at-kinds.ps visit-at-kinds.r visit-at.Post
-one-visit-at κs a x y s t p q = p ∙ sym q
+pub one_visit_at : OneResult visit-at-kinds.ps visit-at-kinds.r visit-at.Post
+one_visit_at κs a x y s t p q = p ∙ sym q

@@ -2,14 +2,14 @@
 ghost use Rattle.std.specs.Prelude.{◌≡◌};
 ghost use Rattle.byte.specs.Text.{upper};
 ghost use Rattle.rules.specs.Cond.{mode};
-ghost use Rattle.rules.specs.Table.{spokenAt};
+ghost use Rattle.rules.specs.Table.{spoken_at};
 
 use outcome::{Add, Spoken};
 
 // What the byte at `at` adds to the codes and passes over, and which case says so, by which text; where no byte stands, nothing. `slavo`
 // is the word's mark, and `second` says that the rules are edition 2's.
 pub fn visit_at(w: &[u8], at: usize, slavo: bool, second: bool) -> Spoken
-    ensures { result ≡ spokenAt (upper w.now) at (mode slavo second) }
+    ensures { result ≡ spoken_at (upper w.now) at (mode slavo second) }
 {
     if w.len() <= at {
         return Spoken::both(1, 0, Add::Nothing, 0);

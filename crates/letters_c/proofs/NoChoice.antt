@@ -4,5 +4,5 @@ use Rattle.basics.proofs.Choice.{OneResult}
 use Rattle.letters_c.proofs.handle_c.Kinds as handle-c-kinds
 use Rattle.letters_c.proofs.handle_c.Reads as handle-c
 
-pub one-handle-c : OneResult handle-c-kinds.ps handle-c-kinds.r handle-c.Post
-one-handle-c κs a x y s t p q = p ∙ sym q
+pub one_handle_c : OneResult handle-c-kinds.ps handle-c-kinds.r handle-c.Post
+one_handle_c κs a x y s t p q = p ∙ sym q

@@ -4,5 +4,5 @@ use Rattle.basics.proofs.Choice.{OneResult}
 use Rattle.letters_cc.proofs.handle_cc.Kinds as handle-cc-kinds
 use Rattle.letters_cc.proofs.handle_cc.Reads as handle-cc
 
-pub one-handle-cc : OneResult handle-cc-kinds.ps handle-cc-kinds.r handle-cc.Post
-one-handle-cc κs a x y s t p q = p ∙ sym q
+pub one_handle_cc : OneResult handle-cc-kinds.ps handle-cc-kinds.r handle-cc.Post
+one_handle_cc κs a x y s t p q = p ∙ sym q

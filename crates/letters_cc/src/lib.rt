@@ -3,16 +3,16 @@
 ghost use Rattle.std.specs.Prelude.{◌≡◌, true};
 ghost use Rattle.std.proofs.Math.Option.{some};
 ghost use Rattle.byte.specs.Text.{upper};
-ghost use Rattle.rules.specs.CasesC.{doubleC, bellocchio, accede};
+ghost use Rattle.rules.specs.CasesC.{double_c, bellocchio, accede};
 ghost use Rattle.rules.specs.Cond.{holds, plain};
 ghost use Rattle.rules.specs.Tree.{run};
-ghost use Rattle.letters_cc.specs.Trees.{treeCC};
+ghost use Rattle.letters_cc.specs.Trees.{tree_cc};
 
 use outcome::{Add, Spoken};
 
 pub fn handle_cc(w: &[u8], at: usize) -> Spoken
-    requires { holds doubleC (upper w.now) at plain ≡ true }
-    ensures { result ≡ run treeCC (some doubleC) (upper w.now) at plain }
+    requires { holds double_c (upper w.now) at plain ≡ true }
+    ensures { result ≡ run tree_cc (some double_c) (upper w.now) at plain }
 {
     if is_bellocchio(w, at) {
         if is_accede(w, at) {

@@ -4,5 +4,5 @@ use Rattle.basics.proofs.Choice.{OneResult}
 use Rattle.letters_ch.proofs.handle_c_before_h.Kinds as handle-c-before-h-kinds
 use Rattle.letters_ch.proofs.handle_c_before_h.Reads as handle-c-before-h
 
-pub one-handle-c-before-h : OneResult handle-c-before-h-kinds.ps handle-c-before-h-kinds.r handle-c-before-h.Post
-one-handle-c-before-h κs a x y s t p q = p ∙ sym q
+pub one_handle_c_before_h : OneResult handle-c-before-h-kinds.ps handle-c-before-h-kinds.r handle-c-before-h.Post
+one_handle_c_before_h κs a x y s t p q = p ∙ sym q

@@ -3,16 +3,16 @@
 ghost use Rattle.std.specs.Prelude.{◌≡◌, true};
 ghost use Rattle.std.proofs.Math.Option.{none, some};
 ghost use Rattle.byte.specs.Text.{upper};
-ghost use Rattle.rules.specs.CasesC.{conditionC0, ach, CH, chae};
+ghost use Rattle.rules.specs.CasesC.{condition_c0, ach, CH, chae};
 ghost use Rattle.rules.specs.Cond.{holds, edited, plain, ◌or◌};
 ghost use Rattle.rules.specs.Told.{text_of};
 ghost use Rattle.rules.specs.Tree.{run};
-ghost use Rattle.letters_ch.specs.Trees.{treeCH, treeCBeforeH};
+ghost use Rattle.letters_ch.specs.Trees.{tree_ch, tree_c_before_h};
 
 use outcome::{Add, Spoken};
 
 pub fn handle_c_before_h(w: &[u8], at: usize, second: bool) -> Spoken
-    ensures { result ≡ run treeCBeforeH none (upper w.now) at (edited second) }
+    ensures { result ≡ run tree_c_before_h none (upper w.now) at (edited second) }
 {
     if condition_c0(w, at) {
         let text = c0_text(w, at);
@@ -25,7 +25,7 @@ pub fn handle_c_before_h(w: &[u8], at: usize, second: bool) -> Spoken
 }
 
 fn c0_text(w: &[u8], at: usize) -> usize
-    ensures { result ≡ text_of conditionC0 (upper w.now) at }
+    ensures { result ≡ text_of condition_c0 (upper w.now) at }
 {
     let chia = views::text_ahead(w, at, 0, 4, b"CHIA");
     let bacher = views::text_behind(w, at, 2, 6, b"BACHERMACHER");
@@ -33,7 +33,7 @@ fn c0_text(w: &[u8], at: usize) -> usize
 }
 
 fn condition_c0(w: &[u8], at: usize) -> bool
-    ensures { result ≡ holds conditionC0 (upper w.now) at plain }
+    ensures { result ≡ holds condition_c0 (upper w.now) at plain }
 {
     if views::ahead(w, at, 0, 4, b"CHIA") {
         true
@@ -61,7 +61,7 @@ fn is_ach(w: &[u8], at: usize) -> bool
 
 fn handle_ch(w: &[u8], at: usize, second: bool) -> Spoken
     requires { holds CH (upper w.now) at plain ≡ true }
-    ensures { result ≡ run treeCH (some CH) (upper w.now) at (edited second) }
+    ensures { result ≡ run tree_ch (some CH) (upper w.now) at (edited second) }
 {
     if is_chae(w, at) {
         // "Michael"

@@ -4,5 +4,5 @@ use Rattle.basics.proofs.Choice.{OneResult}
 use Rattle.letters_chr.proofs.is_greek.Kinds as is-greek-kinds
 use Rattle.letters_chr.proofs.is_greek.Reads as is-greek
 
-pub one-is-greek : OneResult is-greek-kinds.ps is-greek-kinds.r is-greek.Post
-one-is-greek κs a x y s t p q = p ∙ sym q
+pub one_is_greek : OneResult is-greek-kinds.ps is-greek-kinds.r is-greek.Post
+one_is_greek κs a x y s t p q = p ∙ sym q

@@ -1,11 +1,11 @@
 // CH as in Greek: the tests that give it K. Each promises its condition.
 ghost use Rattle.std.specs.Prelude.{◌≡◌};
 ghost use Rattle.byte.specs.Text.{upper};
-ghost use Rattle.rules.specs.CasesC.{conditionCH0, conditionCH1, khBefore, vanOrVon};
+ghost use Rattle.rules.specs.CasesC.{condition_ch0, condition_ch1, kh_before, van_or_von};
 ghost use Rattle.rules.specs.Cond.{holds, edited, plain, ◌or◌};
 
 pub fn is_greek(w: &[u8], at: usize, second: bool) -> bool
-    ensures { result ≡ holds (conditionCH0 or conditionCH1) (upper w.now) at (edited second) }
+    ensures { result ≡ holds (condition_ch0 or condition_ch1) (upper w.now) at (edited second) }
 {
     if condition_ch0(w, at) {
         true
@@ -15,7 +15,7 @@ pub fn is_greek(w: &[u8], at: usize, second: bool) -> bool
 }
 
 fn condition_ch0(w: &[u8], at: usize) -> bool
-    ensures { result ≡ holds conditionCH0 (upper w.now) at plain }
+    ensures { result ≡ holds condition_ch0 (upper w.now) at plain }
 {
     !(at != 0)
         & !(!views::ahead(w, at, 1, 5, b"HARACHARIS") & !views::ahead(w, at, 1, 3, b"HORHYMHIAHEM"))
@@ -23,7 +23,7 @@ fn condition_ch0(w: &[u8], at: usize) -> bool
 }
 
 fn condition_ch1(w: &[u8], at: usize, second: bool) -> bool
-    ensures { result ≡ holds conditionCH1 (upper w.now) at (edited second) }
+    ensures { result ≡ holds condition_ch1 (upper w.now) at (edited second) }
 {
     (is_van_or_von(w, at, second) | views::front(w, 3, b"SCH"))
         | (1 < at) & views::behind(w, at, 2, 6, b"ORCHESARCHITORCHID")
@@ -32,7 +32,7 @@ fn condition_ch1(w: &[u8], at: usize, second: bool) -> bool
 }
 
 fn is_kh_before(w: &[u8], at: usize) -> bool
-    ensures { result ≡ holds khBefore (upper w.now) at plain }
+    ensures { result ≡ holds kh_before (upper w.now) at plain }
 {
     ((at == 0) | views::behind(w, at, 1, 1, b"AOUE"))
         & (views::ahead(w, at, 2, 1, b"LRNMBHFVW ") | spots::from_end(w, at, 1))
@@ -40,7 +40,7 @@ fn is_kh_before(w: &[u8], at: usize) -> bool
 
 // Edition 1 asks for four bytes with texts of three, which never holds: kept as the Rust has it.
 fn is_van_or_von(w: &[u8], at: usize, second: bool) -> bool
-    ensures { result ≡ holds vanOrVon (upper w.now) at (edited second) }
+    ensures { result ≡ holds van_or_von (upper w.now) at (edited second) }
 {
     if second {
         views::front(w, 4, b"VAN VON ")

@@ -4,5 +4,5 @@ use Rattle.basics.proofs.Choice.{OneResult}
 use Rattle.letters_d.proofs.handle_d.Kinds as handle-d-kinds
 use Rattle.letters_d.proofs.handle_d.Reads as handle-d
 
-pub one-handle-d : OneResult handle-d-kinds.ps handle-d-kinds.r handle-d.Post
-one-handle-d κs a x y s t p q = p ∙ sym q
+pub one_handle_d : OneResult handle-d-kinds.ps handle-d-kinds.r handle-d.Post
+one_handle_d κs a x y s t p q = p ∙ sym q

@@ -1,11 +1,11 @@
 -- Each letter's cases are the ways through its tree, by computation.
 use mathlib.Core.Path.{◌≡◌, refl}
 use mathlib.Core.Option.{none}
-use Rattle.rules.specs.CasesDL.{casesD}
+use Rattle.rules.specs.CasesDL.{cases_d}
 use Rattle.rules.specs.Told.{numbered}
 use Rattle.rules.specs.Tree.{ways}
-use Rattle.letters_d.specs.Trees.{treeD}
+use Rattle.letters_d.specs.Trees.{tree_d}
 
-pub ways-D : ways none treeD ≡ numbered casesD
-unfolding ways treeD casesD
-ways-D = refl
+pub ways_d : ways none tree_d ≡ numbered cases_d
+unfolding ways tree_d cases_d
+ways_d = refl

@@ -5,8 +5,8 @@ use Rattle.rules.specs.Cond.{window, ahead}
 use Rattle.rules.specs.CasesDL.{DG}
 use Rattle.rules.specs.Tree.{Tree, say, ask}
 
-unfoldable pub treeD : Tree
-treeD =
+unfoldable pub tree_d : Tree
+tree_d =
     ask DG
     (ask (window (ahead 2) 1 ("I" ∷ "E" ∷ "Y" ∷ [])) (say 1 "J" "J" 2) (say 2 "TK" "TK" 1))
     (ask (window (ahead 0) 2 ("DT" ∷ "DD" ∷ [])) (say 3 "T" "T" 1)

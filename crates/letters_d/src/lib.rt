@@ -2,14 +2,14 @@
 // cases that holds; a branch's function promises its tree (specs/Trees.antt), a test's its condition.
 ghost use Rattle.std.specs.Prelude.{◌≡◌};
 ghost use Rattle.byte.specs.Text.{upper};
-ghost use Rattle.rules.specs.CasesDL.{casesD};
+ghost use Rattle.rules.specs.CasesDL.{cases_d};
 ghost use Rattle.rules.specs.Cond.{plain};
 ghost use Rattle.rules.specs.Told.{numbered, speaker};
 
 use outcome::{Add, Spoken};
 
 pub fn handle_d(w: &[u8], at: usize) -> Spoken
-    ensures { result ≡ speaker (numbered casesD) (upper w.now) at plain }
+    ensures { result ≡ speaker (numbered cases_d) (upper w.now) at plain }
 {
     if views::ahead(w, at, 1, 1, b"DGT") {
         handle_d_before(w, at)
@@ -20,7 +20,7 @@ pub fn handle_d(w: &[u8], at: usize) -> Spoken
 
 // D before a byte that some case asks for.
 fn handle_d_before(w: &[u8], at: usize) -> Spoken
-    ensures { result ≡ speaker (numbered casesD) (upper w.now) at plain }
+    ensures { result ≡ speaker (numbered cases_d) (upper w.now) at plain }
 {
     if views::ahead(w, at, 0, 2, b"DG") {
         if views::ahead(w, at, 2, 1, b"IEY") {

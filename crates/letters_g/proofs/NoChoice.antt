@@ -4,5 +4,5 @@ use Rattle.basics.proofs.Choice.{OneResult}
 use Rattle.letters_g.proofs.handle_g.Kinds as handle-g-kinds
 use Rattle.letters_g.proofs.handle_g.Reads as handle-g
 
-pub one-handle-g : OneResult handle-g-kinds.ps handle-g-kinds.r handle-g.Post
-one-handle-g κs a x y s t p q = p ∙ sym q
+pub one_handle_g : OneResult handle-g-kinds.ps handle-g-kinds.r handle-g.Post
+one_handle_g κs a x y s t p q = p ∙ sym q

@@ -4,8 +4,8 @@ use mathlib.Core.List.{List}
 use native.Mathlib.Omega.{arith}
 use Rattle.rules.specs.Cond.{Mode}
 use Rattle.rules.specs.CasesG.{biaggi}
-use Rattle.rules.proofs.Told.{Exact, exact-window, exact_past, exact-or}
+use Rattle.rules.proofs.Told.{Exact, exact_window, exact_past, exact_or}
 
 module _ (u : List ℕ) (p : ℕ) (m : Mode) where
-  pub exact-biaggi : Exact u p m biaggi
-  exact-biaggi = exact-or u p m _ _ (exact-window u p m _ _ _) (exact_past u p m 0 1 4 _ (omega arith))
+  pub exact_biaggi : Exact u p m biaggi
+  exact_biaggi = exact_or u p m _ _ (exact_window u p m _ _ _) (exact_past u p m 0 1 4 _ (omega arith))

@@ -7,13 +7,13 @@ ghost use Rattle.rules.specs.CasesG.{biaggi, germanic};
 ghost use Rattle.rules.specs.Cond.{holds, plain};
 ghost use Rattle.rules.specs.Told.{text_of};
 ghost use Rattle.rules.specs.Tree.{run};
-ghost use Rattle.letters_ge.specs.Trees.{treeGGI, treeGLast};
+ghost use Rattle.letters_ge.specs.Trees.{tree_ggi, tree_g_last};
 
 use outcome::{Add, Spoken};
 
 // G before neither H nor N, where neither `gli` nor `ger` holds: crates/letters_g asks those first.
 pub fn handle_g_last(w: &[u8], at: usize) -> Spoken
-    ensures { result ≡ run treeGLast none (upper w.now) at plain }
+    ensures { result ≡ run tree_g_last none (upper w.now) at plain }
 {
     let text = biaggi_text(w, at);
     if text != 0 {
@@ -28,7 +28,7 @@ pub fn handle_g_last(w: &[u8], at: usize) -> Spoken
 fn handle_ggi(w: &[u8], at: usize, text: usize) -> Spoken
     requires tells { text ≡ text_of biaggi (upper w.now) at }
     requires held { text ≡ 0 → ⊥ }
-    ensures { result ≡ run treeGGI (some biaggi) (upper w.now) at plain }
+    ensures { result ≡ run tree_ggi (some biaggi) (upper w.now) at plain }
 {
     if is_germanic(w, at) {
         Spoken::both(13, text, Add::One(b'K'), 1)

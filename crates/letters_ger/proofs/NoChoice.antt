@@ -6,8 +6,8 @@ use Rattle.letters_ger.proofs.is_ger.Reads as is-ger
 use Rattle.letters_ger.proofs.ger_text.Kinds as ger-text-kinds
 use Rattle.letters_ger.proofs.ger_text.Reads as ger-text
 
-pub one-is-ger : OneResult is-ger-kinds.ps is-ger-kinds.r is-ger.Post
-one-is-ger κs a x y s t p q = p ∙ sym q
+pub one_is_ger : OneResult is-ger-kinds.ps is-ger-kinds.r is-ger.Post
+one_is_ger κs a x y s t p q = p ∙ sym q
 
-pub one-ger-text : OneResult ger-text-kinds.ps ger-text-kinds.r ger-text.Post
-one-ger-text κs a x y s t p q = p ∙ sym q
+pub one_ger_text : OneResult ger-text-kinds.ps ger-text-kinds.r ger-text.Post
+one_ger_text κs a x y s t p q = p ∙ sym q

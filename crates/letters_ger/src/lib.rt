@@ -1,7 +1,7 @@
 // The -ger- and -gy- test of G: whether it holds, and which of its texts it tells.
 ghost use Rattle.std.specs.Prelude.{◌≡◌};
 ghost use Rattle.byte.specs.Text.{upper};
-ghost use Rattle.rules.specs.CasesG.{gerFirst, ger};
+ghost use Rattle.rules.specs.CasesG.{ger_first, ger};
 ghost use Rattle.rules.specs.Cond.{holds, plain};
 ghost use Rattle.rules.specs.Told.{text_of};
 
@@ -29,7 +29,7 @@ pub fn ger_text(w: &[u8], at: usize) -> usize
 
 // -ges-, -gep-, -gel-, -gie- at the beginning.
 fn is_ger_first(w: &[u8], at: usize) -> bool
-    ensures { result ≡ holds gerFirst (upper w.now) at plain }
+    ensures { result ≡ holds ger_first (upper w.now) at plain }
 {
     if at == 0 {
         spots::char_ahead(w, at, 1, b'Y') | views::ahead(w, at, 1, 2, b"ESEPEBELEYIBILINIEEIER")

@@ -3,16 +3,16 @@
 ghost use Rattle.std.specs.Prelude.{◌≡◌, not, eqb};
 ghost use Rattle.std.proofs.Math.Option.{some};
 ghost use Rattle.byte.specs.Text.{upper};
-ghost use Rattle.rules.specs.CasesG.{afterConsonant, parker, laugh, afterOther, Gh};
+ghost use Rattle.rules.specs.CasesG.{after_consonant, parker, laugh, after_other, Gh};
 ghost use Rattle.rules.specs.Cond.{holds, plain};
 ghost use Rattle.rules.specs.Told.{text_of};
 ghost use Rattle.rules.specs.Tree.{run};
-ghost use Rattle.letters_gh.specs.Trees.{treeGH, treeGHLater};
+ghost use Rattle.letters_gh.specs.Trees.{tree_gh, tree_gh_later};
 
 use outcome::{Add, Spoken};
 
 pub fn handle_gh(w: &[u8], at: usize) -> Spoken
-    ensures { result ≡ run treeGH (some Gh) (upper w.now) at plain }
+    ensures { result ≡ run tree_gh (some Gh) (upper w.now) at plain }
 {
     if is_after_consonant(w, at) {
         Spoken::both(1, 0, Add::One(b'K'), 1)
@@ -29,7 +29,7 @@ pub fn handle_gh(w: &[u8], at: usize) -> Spoken
 
 // Gh behind a vowel.
 fn handle_gh_later(w: &[u8], at: usize) -> Spoken
-    ensures { result ≡ run treeGHLater (some Gh) (upper w.now) at plain }
+    ensures { result ≡ run tree_gh_later (some Gh) (upper w.now) at plain }
 {
     let text = parker_text(w, at);
     if text != 0 {
@@ -45,7 +45,7 @@ fn handle_gh_later(w: &[u8], at: usize) -> Spoken
 }
 
 fn is_after_consonant(w: &[u8], at: usize) -> bool
-    ensures { result ≡ holds afterConsonant (upper w.now) at plain }
+    ensures { result ≡ holds after_consonant (upper w.now) at plain }
 {
     (0 < at) & !spots::vowel_behind(w, at, 1)
 }
@@ -69,7 +69,7 @@ fn is_laugh(w: &[u8], at: usize) -> bool
 }
 
 fn is_after_other(w: &[u8], at: usize) -> bool
-    ensures { result ≡ holds afterOther (upper w.now) at plain }
+    ensures { result ≡ holds after_other (upper w.now) at plain }
 {
     (0 < at) & !spots::char_behind(w, at, 1, b'I')
 }

@@ -4,5 +4,5 @@ use Rattle.basics.proofs.Choice.{OneResult}
 use Rattle.letters_gn.proofs.handle_gn.Kinds as handle-gn-kinds
 use Rattle.letters_gn.proofs.handle_gn.Reads as handle-gn
 
-pub one-handle-gn : OneResult handle-gn-kinds.ps handle-gn-kinds.r handle-gn.Post
-one-handle-gn κs a x y s t p q = p ∙ sym q
+pub one_handle_gn : OneResult handle-gn-kinds.ps handle-gn-kinds.r handle-gn.Post
+one_handle_gn κs a x y s t p q = p ∙ sym q

@@ -1,9 +1,9 @@
 -- For the proofs: the trees of G before N, which follow the code branch by branch.
-use Rattle.rules.specs.CasesG.{gnSecond, gnOther}
+use Rattle.rules.specs.CasesG.{gn_second, gn_other}
 use Rattle.rules.specs.Tree.{Tree, say, ask}
 
-unfoldable pub treeGN : Tree
-treeGN =
-    ask gnSecond (say 8 "KN" "N" 1)
-    (ask gnOther (say 9 "N" "KN" 1)
+unfoldable pub tree_gn : Tree
+tree_gn =
+    ask gn_second (say 8 "KN" "N" 1)
+    (ask gn_other (say 9 "N" "KN" 1)
     (say 10 "KN" "KN" 1))

@@ -1,11 +1,11 @@
 -- Each letter's cases are the ways through its tree, by computation.
 use mathlib.Core.Path.{◌≡◌, refl}
 use mathlib.Core.Option.{none}
-use Rattle.rules.specs.CasesDL.{casesH}
+use Rattle.rules.specs.CasesDL.{cases_h}
 use Rattle.rules.specs.Told.{numbered}
 use Rattle.rules.specs.Tree.{ways}
-use Rattle.letters_h.specs.Trees.{treeH}
+use Rattle.letters_h.specs.Trees.{tree_h}
 
-pub ways-H : ways none treeH ≡ numbered casesH
-unfolding ways treeH casesH
-ways-H = refl
+pub ways_h : ways none tree_h ≡ numbered cases_h
+unfolding ways tree_h cases_h
+ways_h = refl

@@ -2,7 +2,7 @@
 // cases that holds; a branch's function promises its tree (specs/Trees.antt), a test's its condition.
 ghost use Rattle.std.specs.Prelude.{◌≡◌};
 ghost use Rattle.byte.specs.Text.{upper};
-ghost use Rattle.rules.specs.CasesDL.{casesH, beforeVowel};
+ghost use Rattle.rules.specs.CasesDL.{cases_h, before_vowel};
 ghost use Rattle.rules.specs.Cond.{holds, plain};
 ghost use Rattle.rules.specs.Told.{numbered, speaker};
 
@@ -10,7 +10,7 @@ use outcome::{Add, Spoken};
 
 // Kept first before a vowel, or between two; this takes care of "HH" too.
 pub fn handle_h(w: &[u8], at: usize) -> Spoken
-    ensures { result ≡ speaker (numbered casesH) (upper w.now) at plain }
+    ensures { result ≡ speaker (numbered cases_h) (upper w.now) at plain }
 {
     if is_before_vowel(w, at) {
         Spoken::both(1, 0, Add::One(b'H'), 1)
@@ -20,7 +20,7 @@ pub fn handle_h(w: &[u8], at: usize) -> Spoken
 }
 
 fn is_before_vowel(w: &[u8], at: usize) -> bool
-    ensures { result ≡ holds beforeVowel (upper w.now) at plain }
+    ensures { result ≡ holds before_vowel (upper w.now) at plain }
 {
     if (at == 0) | spots::vowel_behind(w, at, 1) {
         spots::vowel_ahead(w, at, 1)

@@ -1,14 +1,14 @@
 // The rule of J: what it promises is the first of its cases that holds; the function of a compound test promises its condition.
 ghost use Rattle.std.specs.Prelude.{◌≡◌};
 ghost use Rattle.byte.specs.Text.{upper};
-ghost use Rattle.rules.specs.CasesDL.{casesJ, spanish, spanishH};
+ghost use Rattle.rules.specs.CasesDL.{cases_j, spanish, spanish_h};
 ghost use Rattle.rules.specs.Cond.{holds, marked, plain};
 ghost use Rattle.rules.specs.Told.{numbered, speaker};
 
 use outcome::{Add, Spoken};
 
 pub fn handle_j(w: &[u8], at: usize, slavo: bool) -> Spoken
-    ensures { result ≡ speaker (numbered casesJ) (upper w.now) at (marked slavo) }
+    ensures { result ≡ speaker (numbered cases_j) (upper w.now) at (marked slavo) }
 {
     if is_spanish(w, at) {
         if is_spanish_h(w, at) {
@@ -33,7 +33,7 @@ fn is_spanish(w: &[u8], at: usize) -> bool
 }
 
 fn is_spanish_h(w: &[u8], at: usize) -> bool
-    ensures { result ≡ holds spanishH (upper w.now) at plain }
+    ensures { result ≡ holds spanish_h (upper w.now) at plain }
 {
     ((at == 0) & spots::char_ahead(w, at, 4, b' ') | spots::has_length(w, 4))
         | views::front(w, 4, b"SAN ")

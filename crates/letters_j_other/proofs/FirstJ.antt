@@ -6,20 +6,20 @@ use mathlib.Core.List.{List}
 use mathlib.Core.Option.{Option}
 use borrow.Author.Tests.{eq-eqb, ne_eqb}
 use Rattle.rules.specs.Cond.{Cond, Mode, plain, holds}
-use Rattle.rules.specs.CasesDL.{spanish, firstJ}
+use Rattle.rules.specs.CasesDL.{spanish, first_j}
 use Rattle.rules.specs.Tree.{Tree, ask, onto}
 use Rattle.outcome.specs.declared.Spoken.{Spoken}
-use Rattle.rules.proofs.Idle.{first-j}
+use Rattle.rules.proofs.Idle.{first_j_lem}
 use Rattle.rules.proofs.Tree.{Says, yes, no, says-marked}
 
 module _ {u : List ℕ} {p : ℕ} {m : Mode} {o : Option Cond} {t e : Tree} {v : Spoken} where
-  pub yes-first : holds spanish u p plain ≡ false → p ≡ 0 → Says u p m (onto o firstJ) t v → Says u p m o (ask firstJ t e) v
+  pub yes_first : holds spanish u p plain ≡ false → p ≡ 0 → Says u p m (onto o first_j) t v → Says u p m o (ask first_j t e) v
   unfolding holds
-  yes-first n h s = yes (sym (first-j u p plain n ∙ eq-eqb p 0 h)) refl s
+  yes_first n h s = yes (sym (first_j_lem u p plain n ∙ eq-eqb p 0 h)) refl s
 
-  pub no-first : holds spanish u p plain ≡ false → (p ≡ 0 → ⊥) → Says u p m o e v → Says u p m o (ask firstJ t e) v
+  pub no_first : holds spanish u p plain ≡ false → (p ≡ 0 → ⊥) → Says u p m o e v → Says u p m o (ask first_j t e) v
   unfolding holds
-  no-first n h s = no (sym (first-j u p plain n ∙ ne_eqb p 0 h)) refl s
+  no_first n h s = no (sym (first_j_lem u p plain n ∙ ne_eqb p 0 h)) refl s
 
 -- what `search` is handed at a return of handle_j_other
-pub ruleset Says-first = (yes-first, no-first, says-marked)
+pub ruleset Says-first = (yes_first, no_first, says-marked)

@@ -4,5 +4,5 @@ use Rattle.basics.proofs.Choice.{OneResult}
 use Rattle.letters_j_other.proofs.handle_j_other.Kinds as handle-j-other-kinds
 use Rattle.letters_j_other.proofs.handle_j_other.Reads as handle-j-other
 
-pub one-handle-j-other : OneResult handle-j-other-kinds.ps handle-j-other-kinds.r handle-j-other.Post
-one-handle-j-other κs a x y s t p q = p ∙ sym q
+pub one_handle_j_other : OneResult handle-j-other-kinds.ps handle-j-other-kinds.r handle-j-other.Post
+one_handle_j_other κs a x y s t p q = p ∙ sym q

@@ -2,17 +2,17 @@
 ghost use Rattle.std.specs.Prelude.{◌≡◌, false};
 ghost use Rattle.std.proofs.Math.Option.{none};
 ghost use Rattle.byte.specs.Text.{upper};
-ghost use Rattle.rules.specs.CasesDL.{spanish, betweenVowels, plainJ};
+ghost use Rattle.rules.specs.CasesDL.{spanish, between_vowels, plain_j};
 ghost use Rattle.rules.specs.Cond.{holds, marked, plain};
 ghost use Rattle.rules.specs.Tree.{run};
-ghost use Rattle.letters_j_other.specs.Trees.{treeJOther};
+ghost use Rattle.letters_j_other.specs.Trees.{tree_j_other};
 
 use outcome::{Add, Spoken};
 
 // J in no Spanish name, so in no JOSE, which the Rust asks again where J stands first.
 pub fn handle_j_other(w: &[u8], at: usize, slavo: bool) -> Spoken
     requires { holds spanish (upper w.now) at plain ≡ false }
-    ensures { result ≡ run treeJOther none (upper w.now) at (marked slavo) }
+    ensures { result ≡ run tree_j_other none (upper w.now) at (marked slavo) }
 {
     let doubled = spots::char_ahead(w, at, 1, b'J');
     if at == 0 {
@@ -29,7 +29,7 @@ pub fn handle_j_other(w: &[u8], at: usize, slavo: bool) -> Spoken
 }
 
 fn is_between_vowels(w: &[u8], at: usize, slavo: bool) -> bool
-    ensures { result ≡ holds betweenVowels (upper w.now) at (marked slavo) }
+    ensures { result ≡ holds between_vowels (upper w.now) at (marked slavo) }
 {
     (0 < at)
         & spots::vowel_behind(w, at, 1)
@@ -38,7 +38,7 @@ fn is_between_vowels(w: &[u8], at: usize, slavo: bool) -> bool
 }
 
 fn is_plain_j(w: &[u8], at: usize) -> bool
-    ensures { result ≡ holds plainJ (upper w.now) at plain }
+    ensures { result ≡ holds plain_j (upper w.now) at plain }
 {
     !views::ahead(w, at, 1, 1, b"LTKSNMBZ") & ((at == 0) | !views::behind(w, at, 1, 1, b"SKL"))
 }

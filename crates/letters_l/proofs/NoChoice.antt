@@ -4,5 +4,5 @@ use Rattle.basics.proofs.Choice.{OneResult}
 use Rattle.letters_l.proofs.handle_l.Kinds as handle-l-kinds
 use Rattle.letters_l.proofs.handle_l.Reads as handle-l
 
-pub one-handle-l : OneResult handle-l-kinds.ps handle-l-kinds.r handle-l.Post
-one-handle-l κs a x y s t p q = p ∙ sym q
+pub one_handle_l : OneResult handle-l-kinds.ps handle-l-kinds.r handle-l.Post
+one_handle_l κs a x y s t p q = p ∙ sym q

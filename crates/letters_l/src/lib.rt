@@ -2,14 +2,14 @@
 // cases that holds; a branch's function promises its tree (specs/Trees.antt), a test's its condition.
 ghost use Rattle.std.specs.Prelude.{◌≡◌, true};
 ghost use Rattle.byte.specs.Text.{upper};
-ghost use Rattle.rules.specs.CasesDL.{casesL, conditionL0};
+ghost use Rattle.rules.specs.CasesDL.{cases_l, condition_l0};
 ghost use Rattle.rules.specs.Cond.{holds, plain};
 ghost use Rattle.rules.specs.Told.{text_of, numbered, speaker};
 
 use outcome::{Add, Spoken};
 
 pub fn handle_l(w: &[u8], at: usize) -> Spoken
-    ensures { result ≡ speaker (numbered casesL) (upper w.now) at plain }
+    ensures { result ≡ speaker (numbered cases_l) (upper w.now) at plain }
 {
     if spots::char_ahead(w, at, 1, b'L') {
         if condition_l0(w, at) {
@@ -25,7 +25,7 @@ pub fn handle_l(w: &[u8], at: usize) -> Spoken
 }
 
 fn condition_l0(w: &[u8], at: usize) -> bool
-    ensures { result ≡ holds conditionL0 (upper w.now) at plain }
+    ensures { result ≡ holds condition_l0 (upper w.now) at plain }
 {
     spots::from_end(w, at, 2) & (0 < at) & views::behind(w, at, 1, 4, b"ILLOILLAALLE")
         | (views::rear(w, 2, b"ASOS") | views::rear(w, 1, b"AO"))
@@ -34,8 +34,8 @@ fn condition_l0(w: &[u8], at: usize) -> bool
 
 // An ALLE that the second half of the condition asks for is the third text of the first half.
 fn l0_text(w: &[u8], at: usize) -> usize
-    requires { holds conditionL0 (upper w.now) at plain ≡ true }
-    ensures { result ≡ text_of conditionL0 (upper w.now) at }
+    requires { holds condition_l0 (upper w.now) at plain ≡ true }
+    ensures { result ≡ text_of condition_l0 (upper w.now) at }
 {
     views::text_behind(w, at, 1, 4, b"ILLOILLAALLE")
 }

@@ -4,5 +4,5 @@ use Rattle.basics.proofs.Choice.{OneResult}
 use Rattle.letters_m.proofs.handle_m.Kinds as handle-m-kinds
 use Rattle.letters_m.proofs.handle_m.Reads as handle-m
 
-pub one-handle-m : OneResult handle-m-kinds.ps handle-m-kinds.r handle-m.Post
-one-handle-m κs a x y s t p q = p ∙ sym q
+pub one_handle_m : OneResult handle-m-kinds.ps handle-m-kinds.r handle-m.Post
+one_handle_m κs a x y s t p q = p ∙ sym q

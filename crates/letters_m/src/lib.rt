@@ -2,14 +2,14 @@
 // cases that holds; a branch's function promises its tree (specs/Trees.antt), a test's its condition.
 ghost use Rattle.std.specs.Prelude.{◌≡◌};
 ghost use Rattle.byte.specs.Text.{upper};
-ghost use Rattle.rules.specs.CasesMZ.{casesM, conditionM0};
+ghost use Rattle.rules.specs.CasesMZ.{cases_m, condition_m0};
 ghost use Rattle.rules.specs.Cond.{holds, plain};
 ghost use Rattle.rules.specs.Told.{text_of, numbered, speaker};
 
 use outcome::{Add, Spoken};
 
 pub fn handle_m(w: &[u8], at: usize) -> Spoken
-    ensures { result ≡ speaker (numbered casesM) (upper w.now) at plain }
+    ensures { result ≡ speaker (numbered cases_m) (upper w.now) at plain }
 {
     if condition_m0(w, at) {
         let text = m0_text(w, at);
@@ -21,7 +21,7 @@ pub fn handle_m(w: &[u8], at: usize) -> Spoken
 
 // A doubled M, or the B of UMB when that B is last ("dumb") or ER follows it ("plumber").
 fn condition_m0(w: &[u8], at: usize) -> bool
-    ensures { result ≡ holds conditionM0 (upper w.now) at plain }
+    ensures { result ≡ holds condition_m0 (upper w.now) at plain }
 {
     if spots::char_ahead(w, at, 1, b'M') {
         true
@@ -33,7 +33,7 @@ fn condition_m0(w: &[u8], at: usize) -> bool
 }
 
 fn m0_text(w: &[u8], at: usize) -> usize
-    ensures { result ≡ text_of conditionM0 (upper w.now) at }
+    ensures { result ≡ text_of condition_m0 (upper w.now) at }
 {
     let umb = views::text_behind(w, at, 1, 3, b"UMB");
     let er = views::text_ahead(w, at, 2, 2, b"ER");

@@ -5,7 +5,7 @@ use Rattle.rules.specs.Cond.{window, ahead}
 use Rattle.rules.specs.Plain.{next}
 use Rattle.rules.specs.Tree.{Tree, say, ask, over}
 
-unfoldable pub treeP : Tree
-treeP =
+unfoldable pub tree_p : Tree
+tree_p =
     ask (next "H") (say 1 "F" "F" 1)
     (over 2 (window (ahead 1) 1 ("P" ∷ "B" ∷ [])) "P" "P")

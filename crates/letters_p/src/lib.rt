@@ -2,14 +2,14 @@
 // cases that holds; a branch's function promises its tree (specs/Trees.antt), a test's its condition.
 ghost use Rattle.std.specs.Prelude.{◌≡◌};
 ghost use Rattle.byte.specs.Text.{upper};
-ghost use Rattle.rules.specs.CasesMZ.{casesP};
+ghost use Rattle.rules.specs.CasesMZ.{cases_p};
 ghost use Rattle.rules.specs.Cond.{plain};
 ghost use Rattle.rules.specs.Told.{numbered, speaker};
 
 use outcome::{Add, Spoken};
 
 pub fn handle_p(w: &[u8], at: usize) -> Spoken
-    ensures { result ≡ speaker (numbered casesP) (upper w.now) at plain }
+    ensures { result ≡ speaker (numbered cases_p) (upper w.now) at plain }
 {
     if spots::char_ahead(w, at, 1, b'H') {
         Spoken::both(1, 0, Add::One(b'F'), 1)

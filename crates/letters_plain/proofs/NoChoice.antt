@@ -8,8 +8,8 @@ use Rattle.letters_plain.proofs.handle_vowel.Reads as handle-vowel
 use Rattle.letters_plain.proofs.handle_plain.Kinds as handle-plain-kinds
 use Rattle.letters_plain.proofs.handle_plain.Reads as handle-plain
 
-pub one-handle-vowel : OneResult handle-vowel-kinds.ps handle-vowel-kinds.r handle-vowel.Post
-one-handle-vowel κs a x y s t p q = p ∙ sym q
+pub one_handle_vowel : OneResult handle-vowel-kinds.ps handle-vowel-kinds.r handle-vowel.Post
+one_handle_vowel κs a x y s t p q = p ∙ sym q
 
-pub one-handle-plain : OneResult handle-plain-kinds.ps handle-plain-kinds.r handle-plain.Post
-one-handle-plain κs a x y s t p q = p ∙ sym q
+pub one_handle_plain : OneResult handle-plain-kinds.ps handle-plain-kinds.r handle-plain.Post
+one_handle_plain κs a x y s t p q = p ∙ sym q

@@ -4,7 +4,7 @@ ghost use Rattle.byte.specs.Text.{upper};
 ghost use Rattle.spots.specs.Spot.{byte_at};
 ghost use Rattle.outcome.specs.Answers.{answer};
 ghost use Rattle.rules.specs.Cond.{plain};
-ghost use Rattle.rules.specs.Plain.{casesVowel};
+ghost use Rattle.rules.specs.Plain.{cases_vowel};
 ghost use Rattle.outcome.specs.Answers.{spoke};
 ghost use Rattle.rules.specs.Told.{numbered, speaker};
 ghost use Rattle.outcome.specs.declared.Add.TheVariants.{One};
@@ -13,7 +13,7 @@ use outcome::{Add, Spoken};
 
 // A vowel or Y gives A at place 0 only.
 pub fn handle_vowel(w: &[u8], at: usize) -> Spoken
-    ensures { result ≡ speaker (numbered casesVowel) (upper w.now) at plain }
+    ensures { result ≡ speaker (numbered cases_vowel) (upper w.now) at plain }
 {
     if at == 0 {
         Spoken::both(1, 0, Add::One(b'A'), 0)

@@ -4,5 +4,5 @@ use Rattle.basics.proofs.Choice.{OneResult}
 use Rattle.letters_r.proofs.handle_r.Kinds as handle-r-kinds
 use Rattle.letters_r.proofs.handle_r.Reads as handle-r
 
-pub one-handle-r : OneResult handle-r-kinds.ps handle-r-kinds.r handle-r.Post
-one-handle-r κs a x y s t p q = p ∙ sym q
+pub one_handle_r : OneResult handle-r-kinds.ps handle-r-kinds.r handle-r.Post
+one_handle_r κs a x y s t p q = p ∙ sym q

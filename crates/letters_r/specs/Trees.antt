@@ -4,5 +4,5 @@ use Rattle.rules.specs.Plain.{next}
 use Rattle.rules.specs.CasesMZ.{rogier}
 use Rattle.rules.specs.Tree.{Tree, ask, over}
 
-unfoldable pub treeR : Tree
-treeR = ask rogier (over 1 (next "R") "" "R") (over 3 (next "R") "R" "R")
+unfoldable pub tree_r : Tree
+tree_r = ask rogier (over 1 (next "R") "" "R") (over 3 (next "R") "R" "R")

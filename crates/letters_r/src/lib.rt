@@ -2,14 +2,14 @@
 // cases that holds; a branch's function promises its tree (specs/Trees.antt), a test's its condition.
 ghost use Rattle.std.specs.Prelude.{◌≡◌};
 ghost use Rattle.byte.specs.Text.{upper};
-ghost use Rattle.rules.specs.CasesMZ.{casesR, rogier};
+ghost use Rattle.rules.specs.CasesMZ.{cases_r, rogier};
 ghost use Rattle.rules.specs.Cond.{holds, marked};
 ghost use Rattle.rules.specs.Told.{numbered, speaker};
 
 use outcome::{Add, Spoken};
 
 pub fn handle_r(w: &[u8], at: usize, slavo: bool) -> Spoken
-    ensures { result ≡ speaker (numbered casesR) (upper w.now) at (marked slavo) }
+    ensures { result ≡ speaker (numbered cases_r) (upper w.now) at (marked slavo) }
 {
     let doubled = spots::char_ahead(w, at, 1, b'R');
     if is_rogier(w, at, slavo) {

@@ -7,13 +7,13 @@ ghost use Rattle.rules.specs.CasesS.{smith, artois};
 ghost use Rattle.rules.specs.Cond.{holds, plain, window, ahead, ◌&◌};
 ghost use Rattle.rules.specs.Told.{text_of};
 ghost use Rattle.rules.specs.Tree.{run};
-ghost use Rattle.letters_s_next.specs.Trees.{treeSNext, treeSLast};
+ghost use Rattle.letters_s_next.specs.Trees.{tree_s_next, tree_s_last};
 
 use outcome::{Add, Spoken};
 
 // S that is not silent, and before no H, IO or IA.
 pub fn handle_s_next(w: &[u8], at: usize) -> Spoken
-    ensures { result ≡ run treeSNext none (upper w.now) at plain }
+    ensures { result ≡ run tree_s_next none (upper w.now) at plain }
 {
     if is_smith(w, at) {
         let text = smith_text(w, at);
@@ -28,7 +28,7 @@ pub fn handle_s_next(w: &[u8], at: usize) -> Spoken
 
 // S where no test of handle_s_next holds either.
 fn handle_s_last(w: &[u8], at: usize) -> Spoken
-    ensures { result ≡ run treeSLast none (upper w.now) at plain }
+    ensures { result ≡ run tree_s_last none (upper w.now) at plain }
 {
     if is_artois(w, at) {
         let text = artois_text(w, at);

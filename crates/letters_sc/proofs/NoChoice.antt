@@ -4,5 +4,5 @@ use Rattle.basics.proofs.Choice.{OneResult}
 use Rattle.letters_sc.proofs.handle_sc.Kinds as handle-sc-kinds
 use Rattle.letters_sc.proofs.handle_sc.Reads as handle-sc
 
-pub one-handle-sc : OneResult handle-sc-kinds.ps handle-sc-kinds.r handle-sc.Post
-one-handle-sc κs a x y s t p q = p ∙ sym q
+pub one_handle_sc : OneResult handle-sc-kinds.ps handle-sc-kinds.r handle-sc.Post
+one_handle_sc κs a x y s t p q = p ∙ sym q

@@ -3,17 +3,17 @@
 ghost use Rattle.std.specs.Prelude.{◌≡◌, true};
 ghost use Rattle.std.proofs.Math.Option.{some};
 ghost use Rattle.byte.specs.Text.{upper};
-ghost use Rattle.rules.specs.CasesS.{SC, SCH, firstSCH};
+ghost use Rattle.rules.specs.CasesS.{SC, SCH, first_sch};
 ghost use Rattle.rules.specs.Cond.{holds, plain, ◌&◌};
 ghost use Rattle.rules.specs.Tree.{run};
-ghost use Rattle.letters_sc.specs.Trees.{treeSC, treeSCH};
+ghost use Rattle.letters_sc.specs.Trees.{tree_sc, tree_sch};
 
 use outcome::{Add, Spoken};
 
 // Two bytes are passed over even where one is left.
 pub fn handle_sc(w: &[u8], at: usize) -> Spoken
     requires { holds SC (upper w.now) at plain ≡ true }
-    ensures { result ≡ run treeSC (some SC) (upper w.now) at plain }
+    ensures { result ≡ run tree_sc (some SC) (upper w.now) at plain }
 {
     if spots::char_ahead(w, at, 2, b'H') {
         // Schlesinger's rule
@@ -27,7 +27,7 @@ pub fn handle_sc(w: &[u8], at: usize) -> Spoken
 
 fn handle_sch(w: &[u8], at: usize) -> Spoken
     requires { holds (SC & SCH) (upper w.now) at plain ≡ true }
-    ensures { result ≡ run treeSCH (some (SC & SCH)) (upper w.now) at plain }
+    ensures { result ≡ run tree_sch (some (SC & SCH)) (upper w.now) at plain }
 {
     if views::ahead(w, at, 3, 2, b"OOERENUYEDEM") {
         // Dutch origin, "school", "schooner"
@@ -45,7 +45,7 @@ fn handle_sch(w: &[u8], at: usize) -> Spoken
 }
 
 fn is_first_sch(w: &[u8], at: usize) -> bool
-    ensures { result ≡ holds firstSCH (upper w.now) at plain }
+    ensures { result ≡ holds first_sch (upper w.now) at plain }
 {
     (at == 0) & !spots::vowel_ahead(w, 0, 3) & !spots::char_ahead(w, 0, 3, b'W')
 }

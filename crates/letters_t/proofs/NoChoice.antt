@@ -4,5 +4,5 @@ use Rattle.basics.proofs.Choice.{OneResult}
 use Rattle.letters_t.proofs.handle_t.Kinds as handle-t-kinds
 use Rattle.letters_t.proofs.handle_t.Reads as handle-t
 
-pub one-handle-t : OneResult handle-t-kinds.ps handle-t-kinds.r handle-t.Post
-one-handle-t κs a x y s t p q = p ∙ sym q
+pub one_handle_t : OneResult handle-t-kinds.ps handle-t-kinds.r handle-t.Post
+one_handle_t κs a x y s t p q = p ∙ sym q

@@ -5,8 +5,8 @@ use Rattle.rules.specs.Cond.{window, ahead}
 use Rattle.rules.specs.CasesMZ.{TION, Th, thomas}
 use Rattle.rules.specs.Tree.{Tree, say, ask, over}
 
-unfoldable pub treeT : Tree
-treeT =
+unfoldable pub tree_t : Tree
+tree_t =
     ask TION (say 1 "X" "X" 2)
     (ask Th
     (ask thomas (say 2 "T" "T" 1) (say 3 "0" "T" 1))

@@ -2,14 +2,14 @@
 // cases that holds; a branch's function promises its tree (specs/Trees.antt), a test's its condition.
 ghost use Rattle.std.specs.Prelude.{◌≡◌, not, eqb};
 ghost use Rattle.byte.specs.Text.{upper};
-ghost use Rattle.rules.specs.CasesMZ.{casesT, TION, Th, thomas};
+ghost use Rattle.rules.specs.CasesMZ.{cases_t, TION, Th, thomas};
 ghost use Rattle.rules.specs.Cond.{holds, plain};
 ghost use Rattle.rules.specs.Told.{text_of, numbered, speaker};
 
 use outcome::{Add, Spoken};
 
 pub fn handle_t(w: &[u8], at: usize) -> Spoken
-    ensures { result ≡ speaker (numbered casesT) (upper w.now) at plain }
+    ensures { result ≡ speaker (numbered cases_t) (upper w.now) at plain }
 {
     if views::ahead(w, at, 1, 1, b"CDHIT") {
         handle_t_before(w, at)
@@ -20,7 +20,7 @@ pub fn handle_t(w: &[u8], at: usize) -> Spoken
 
 // T before a byte that some case asks for.
 fn handle_t_before(w: &[u8], at: usize) -> Spoken
-    ensures { result ≡ speaker (numbered casesT) (upper w.now) at plain }
+    ensures { result ≡ speaker (numbered cases_t) (upper w.now) at plain }
 {
     let text = tion_text(w, at);
     if text != 0 {

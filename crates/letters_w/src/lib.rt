@@ -3,16 +3,16 @@
 ghost use Rattle.std.specs.Prelude.{◌≡◌};
 ghost use Rattle.std.proofs.Math.Option.{some};
 ghost use Rattle.byte.specs.Text.{upper};
-ghost use Rattle.rules.specs.CasesMZ.{casesW, firstW, arnow};
+ghost use Rattle.rules.specs.CasesMZ.{cases_w, first_w, arnow};
 ghost use Rattle.rules.specs.Cond.{holds, plain};
 ghost use Rattle.rules.specs.Told.{text_of, numbered, speaker};
 ghost use Rattle.rules.specs.Tree.{run};
-ghost use Rattle.letters_w.specs.Trees.{treeFirstW};
+ghost use Rattle.letters_w.specs.Trees.{tree_first_w};
 
 use outcome::{Add, Spoken};
 
 pub fn handle_w(w: &[u8], at: usize) -> Spoken
-    ensures { result ≡ speaker (numbered casesW) (upper w.now) at plain }
+    ensures { result ≡ speaker (numbered cases_w) (upper w.now) at plain }
 {
     if views::ahead(w, at, 0, 2, b"WR") {
         // also in the middle of a word
@@ -34,7 +34,7 @@ pub fn handle_w(w: &[u8], at: usize) -> Spoken
 }
 
 fn handle_first_w(w: &[u8], at: usize) -> Spoken
-    ensures { result ≡ run treeFirstW (some firstW) (upper w.now) at plain }
+    ensures { result ≡ run tree_first_w (some first_w) (upper w.now) at plain }
 {
     let text = views::text_ahead(w, at, 0, 2, b"WH");
     if spots::vowel_ahead(w, at, 1) {
@@ -47,7 +47,7 @@ fn handle_first_w(w: &[u8], at: usize) -> Spoken
 }
 
 fn is_first_w(w: &[u8], at: usize) -> bool
-    ensures { result ≡ holds firstW (upper w.now) at plain }
+    ensures { result ≡ holds first_w (upper w.now) at plain }
 {
     if at == 0 {
         spots::vowel_ahead(w, at, 1) | views::ahead(w, at, 0, 2, b"WH")

@@ -4,5 +4,5 @@ use Rattle.basics.proofs.Choice.{OneResult}
 use Rattle.letters_x.proofs.handle_x.Kinds as handle-x-kinds
 use Rattle.letters_x.proofs.handle_x.Reads as handle-x
 
-pub one-handle-x : OneResult handle-x-kinds.ps handle-x-kinds.r handle-x.Post
-one-handle-x κs a x y s t p q = p ∙ sym q
+pub one_handle_x : OneResult handle-x-kinds.ps handle-x-kinds.r handle-x.Post
+one_handle_x κs a x y s t p q = p ∙ sym q

@@ -3,16 +3,16 @@
 ghost use Rattle.std.specs.Prelude.{◌≡◌};
 ghost use Rattle.std.proofs.Math.Option.{none};
 ghost use Rattle.byte.specs.Text.{upper};
-ghost use Rattle.rules.specs.CasesMZ.{casesX, breaux};
+ghost use Rattle.rules.specs.CasesMZ.{cases_x, breaux};
 ghost use Rattle.rules.specs.Cond.{holds, non, plain};
 ghost use Rattle.rules.specs.Told.{numbered, speaker};
 ghost use Rattle.rules.specs.Tree.{run};
-ghost use Rattle.letters_x.specs.Trees.{treeXLater};
+ghost use Rattle.letters_x.specs.Trees.{tree_x_later};
 
 use outcome::{Add, Spoken};
 
 pub fn handle_x(w: &[u8], at: usize) -> Spoken
-    ensures { result ≡ speaker (numbered casesX) (upper w.now) at plain }
+    ensures { result ≡ speaker (numbered cases_x) (upper w.now) at plain }
 {
     if at == 0 {
         Spoken::both(1, 0, Add::One(b'S'), 0)
@@ -22,7 +22,7 @@ pub fn handle_x(w: &[u8], at: usize) -> Spoken
 }
 
 fn handle_x_later(w: &[u8], at: usize) -> Spoken
-    ensures { result ≡ run treeXLater none (upper w.now) at plain }
+    ensures { result ≡ run tree_x_later none (upper w.now) at plain }
 {
     let text = views::text_ahead(w, at, 1, 1, b"CX");
     if is_sounded(w, at) {

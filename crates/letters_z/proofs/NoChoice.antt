@@ -4,5 +4,5 @@ use Rattle.basics.proofs.Choice.{OneResult}
 use Rattle.letters_z.proofs.handle_z.Kinds as handle-z-kinds
 use Rattle.letters_z.proofs.handle_z.Reads as handle-z
 
-pub one-handle-z : OneResult handle-z-kinds.ps handle-z-kinds.r handle-z.Post
-one-handle-z κs a x y s t p q = p ∙ sym q
+pub one_handle_z : OneResult handle-z-kinds.ps handle-z-kinds.r handle-z.Post
+one_handle_z κs a x y s t p q = p ∙ sym q

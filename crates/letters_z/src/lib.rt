@@ -3,16 +3,16 @@
 ghost use Rattle.std.specs.Prelude.{◌≡◌};
 ghost use Rattle.std.proofs.Math.Option.{none};
 ghost use Rattle.byte.specs.Text.{upper};
-ghost use Rattle.rules.specs.CasesMZ.{casesZ, zoZiZa};
+ghost use Rattle.rules.specs.CasesMZ.{cases_z, zo_zi_za};
 ghost use Rattle.rules.specs.Cond.{holds, marked};
 ghost use Rattle.rules.specs.Told.{numbered, speaker};
 ghost use Rattle.rules.specs.Tree.{run};
-ghost use Rattle.letters_z.specs.Trees.{treeZOther};
+ghost use Rattle.letters_z.specs.Trees.{tree_z_other};
 
 use outcome::{Add, Spoken};
 
 pub fn handle_z(w: &[u8], at: usize, slavo: bool) -> Spoken
-    ensures { result ≡ speaker (numbered casesZ) (upper w.now) at (marked slavo) }
+    ensures { result ≡ speaker (numbered cases_z) (upper w.now) at (marked slavo) }
 {
     if spots::char_ahead(w, at, 1, b'H') {
         // Chinese pinyin, "zhao"
@@ -23,7 +23,7 @@ pub fn handle_z(w: &[u8], at: usize, slavo: bool) -> Spoken
 }
 
 fn handle_z_other(w: &[u8], at: usize, slavo: bool) -> Spoken
-    ensures { result ≡ run treeZOther none (upper w.now) at (marked slavo) }
+    ensures { result ≡ run tree_z_other none (upper w.now) at (marked slavo) }
 {
     let doubled = spots::char_ahead(w, at, 1, b'Z');
     if is_zo_zi_za(w, at, slavo) {
@@ -35,7 +35,7 @@ fn handle_z_other(w: &[u8], at: usize, slavo: bool) -> Spoken
 }
 
 fn is_zo_zi_za(w: &[u8], at: usize, slavo: bool) -> bool
-    ensures { result ≡ holds zoZiZa (upper w.now) at (marked slavo) }
+    ensures { result ≡ holds zo_zi_za (upper w.now) at (marked slavo) }
 {
     if views::ahead(w, at, 1, 2, b"ZOZIZA") {
         true

@@ -10,11 +10,11 @@ use lib.ListN.{length, take, drop, set, get_or, length-append, length-drop, leng
 use lib.Seq.{sets, sets-eq, length-sets, take_all, take-suc-set, take-add, drop-set-lt, set_at, take_at, drop_at, drop-cons}
 use Rattle.encoder.specs.Encode.{filled}
 use Rattle.line.specs.declared.Span.{Span}
-use Rattle.line.specs.Line.{lineRoom, Lies}
+use Rattle.line.specs.Line.{line_room, Lies}
 
 -- bytes stored from the front fill it
-pub sets-filled : (s c : List ℕ) → length c ≤ length s → sets s 0 c ≡ filled c s
-sets-filled s c h = sets-eq c s 0 (rw zero-add h) ∙ ap (λ (k : ℕ). c ++ drop k s) (zero-add (length c))
+pub sets_filled : (s c : List ℕ) → length c ≤ length s → sets s 0 c ≡ filled c s
+sets_filled s c h = sets-eq c s 0 (rw zero-add h) ∙ ap (λ (k : ℕ). c ++ drop k s) (zero-add (length c))
 
 -- a line lies where an equal one does
 pub lies_in : {l l' : List ℕ} {s : Span} {buf buf' : List ℕ} → l ≡ l' → buf ≡ buf' → Lies l' s buf' → Lies l s buf
@@ -22,8 +22,8 @@ lies_in {l} {l'} {s} {buf} {buf'} e f x = subst (λ (k : List ℕ). Lies k s buf
 
 -- a byte at p, and the rest behind it lent on: what is lent, and what comes back
 module _ (s : List ℕ) (p v : ℕ) (h : p + 1 ≤ length s) where
-  pub rest-lent : mid_of (p + 1) (length (set s p v) - (p + 1)) (set s p v) ≡ drop (p + 1) s
-  rest-lent =
+  pub rest_lent : mid_of (p + 1) (length (set s p v) - (p + 1)) (set s p v) ≡ drop (p + 1) s
+  rest_lent =
       take_all (length (set s p v) - (p + 1)) (drop (p + 1) (set s p v)) (simp length-drop (omega arith)) ∙ drop-set-lt (p + 1) s p v (omega arith)
 
   pub rest_back : (last : List ℕ) → put_mid (p + 1) (length (set s p v) - (p + 1)) (set s p v) last ≡ take p s ++ v ∷ last
@@ -58,7 +58,7 @@ laid G O P A R r g e lg lo le =
     ∙ take_at (P ++ 9 ∷ (A ++ 10 ∷ [])) R (e + 1 - g) n
 
 -- the line of two codes, in a buffer whose tab stands at 4 and is followed by the alternate code
-pub built : (line P A mid : List ℕ) (p a : ℕ) → length line ≡ lineRoom → length mid ≡ lineRoom → p ≡ length P → a ≡ length A → p ≤ 4 → a ≤ 4
+pub built : (line P A mid : List ℕ) (p a : ℕ) → length line ≡ line_room → length mid ≡ line_room → p ≡ length P → a ≡ length A → p ≤ 4 → a ≤ 4
     → mid ≡ take 4 line ++ 9 ∷ filled A (drop 5 line)
     → Lies (P ++ 9 ∷ (A ++ 10 ∷ [])) (record { start = 4 - p; end = 5 + a + 1 }) (set (sets mid (4 - p) P) (5 + a) 10)
 built line P A mid p a n m ep ea hp ha em =
@@ -79,11 +79,11 @@ built line P A mid p a n m ep ea hp ha em =
     }
 
 -- three bytes at the front
-pub three : (line : List ℕ) (x y z : ℕ) → length line ≡ lineRoom
+pub three : (line : List ℕ) (x y z : ℕ) → length line ≡ line_room
     → Lies (x ∷ y ∷ z ∷ []) (record { start = 0; end = 3 }) (set (set (set line 0 x) 1 y) 2 z)
 three line x y z n =
     record {
       ordered = omega arith;
       within = simp length-set (omega arith);
-      bytes = ap (λ (l : List ℕ). take 3 l) (sets-filled line (x ∷ y ∷ z ∷ []) (omega arith)) ∙ take_at (x ∷ y ∷ z ∷ []) (drop 3 line) 3 refl;
+      bytes = ap (λ (l : List ℕ). take 3 l) (sets_filled line (x ∷ y ∷ z ∷ []) (omega arith)) ∙ take_at (x ∷ y ∷ z ∷ []) (drop 3 line) 3 refl;
     }

@@ -1,14 +1,14 @@
 -- The line of a word: what is written for it, and where it lies in a buffer.
 use Rattle.std.specs.Prelude.{ℕ, suc, ◌+◌, ◌≤◌, ◌-◌, zero, ◌≡◌, List, [], ◌∷◌, ◌++◌, length, take, drop}
-use Rattle.encoder.specs.Encode.{defaultLimit, number_of, answer_of, primaryOf, alternateOf}
+use Rattle.encoder.specs.Encode.{default_limit, number_of, answer_of, primary_of, alternate_of}
 use Rattle.line.specs.declared.Span.{Span}
 use Rattle.terms.specs.declared.Edition.TheVariants.{E1}
 use Rattle.terms.specs.declared.Limit.TheVariants.{At}
 use Rattle.trimming.specs.Trim.{trimmed}
 
 -- the longest line that is written: two codes of 4 bytes, a tab and byte 10
-abbrev pub lineRoom : ℕ
-lineRoom = 10
+abbrev pub line_room : ℕ
+line_room = 10
 
 -- the line l lies in the buffer, from the span's start to its end
 pub record Lies (l : List ℕ) (s : Span) (buf : List ℕ) : Type 0 where
@@ -17,12 +17,12 @@ pub record Lies (l : List ℕ) (s : Span) (buf : List ℕ) : Type 0 where
   pub bytes : take (s.end - s.start) (drop s.start buf) ≡ l
 
 -- the line for an answer of the encoder, by its number and the two codes
-abbrev pub lineBy : ℕ → List ℕ → List ℕ → List ℕ
-lineBy zero p a = p ++ 9 ∷ (a ++ 10 ∷ [])
-lineBy (suc n) p a = 33 ∷ (48 + suc n) ∷ 10 ∷ []
+abbrev pub line_by : ℕ → List ℕ → List ℕ → List ℕ
+line_by zero p a = p ++ 9 ∷ (a ++ 10 ∷ [])
+line_by (suc n) p a = 33 ∷ (48 + suc n) ∷ 10 ∷ []
 
 -- the line of a word, under edition 1 and the default limit: buffers of as many bytes are never too short
 unfoldable pub line_of : List ℕ → List ℕ
 line_of w =
-    lineBy (number_of (answer_of E1 (At defaultLimit) w defaultLimit defaultLimit)) (primaryOf E1 (At defaultLimit) (trimmed w))
-    (alternateOf E1 (At defaultLimit) (trimmed w))
+    line_by (number_of (answer_of E1 (At default_limit) w default_limit default_limit)) (primary_of E1 (At default_limit) (trimmed w))
+    (alternate_of E1 (At default_limit) (trimmed w))

@@ -1,6 +1,6 @@
 // The line that the line reader writes for one word: both codes with a tab between them, or a refusal.
 ghost use Rattle.std.specs.Prelude.{◌≡◌, [], ◌∷◌, ◌+◌, ◌≤◌, length};
-ghost use Rattle.line.specs.Line.{line_of, lineRoom, Lies};
+ghost use Rattle.line.specs.Line.{line_of, line_room, Lies};
 
 use answers::Answer;
 use encoder::Encoder;
@@ -21,7 +21,7 @@ pub struct Span {
 
 // The line of a refusal.
 pub fn refuse(line: &mut [u8], number: u8) -> Span
-    requires { (length line.old ≡ lineRoom) × (number ≤ 4) }
+    requires { (length line.old ≡ line_room) × (number ≤ 4) }
     ensures { Lies (33 ∷ (48 + number) ∷ 10 ∷ []) result line.new }
 {
     line[0] = b'!';
@@ -32,7 +32,7 @@ pub fn refuse(line: &mut [u8], number: u8) -> Span
 
 // The line of a word, built in one piece: the encoder writes the alternate code behind the tab, in the same line buffer.
 pub fn build_line(word: &[u8], line: &mut [u8]) -> Span
-    requires { length line.old ≡ lineRoom }
+    requires { length line.old ≡ line_room }
     ensures { Lies (line_of word.now) result line.new }
 {
     let mut code = [0u8; Encoder::DEFAULT_LIMIT];

@@ -22,27 +22,27 @@ unfoldable pub lines_of : List ℕ → List (List ℕ)
 lines_of i = ended [] i ++ last (begun [] i)
 
 -- what is written for lines, and for an input
-abbrev pub linesWritten : List (List ℕ) → List ℕ
-linesWritten [] = []
-linesWritten (l ∷ ls) = line_of l ++ linesWritten ls
+abbrev pub lines_written : List (List ℕ) → List ℕ
+lines_written [] = []
+lines_written (l ∷ ls) = line_of l ++ lines_written ls
 
-unfoldable pub outputOf : List ℕ → List ℕ
-outputOf i = linesWritten (lines_of i)
+unfoldable pub output_of : List ℕ → List ℕ
+output_of i = lines_written (lines_of i)
 
 -- i is the lines ls, each before a byte 10, and then the rest, and none of them has a byte 10
 abbrev pub joined : List (List ℕ) → List ℕ → List ℕ
 joined [] rest = rest
 joined (l ∷ ls) rest = l ++ 10 ∷ joined ls rest
 
-abbrev pub hasEnd : List ℕ → Bool
-hasEnd [] = false
-hasEnd (b ∷ l) = eqb b 10 || hasEnd l
+abbrev pub has_end : List ℕ → Bool
+has_end [] = false
+has_end (b ∷ l) = eqb b 10 || has_end l
 
-abbrev pub someEnd : List (List ℕ) → Bool
-someEnd [] = false
-someEnd (l ∷ ls) = hasEnd l || someEnd ls
+abbrev pub some_end : List (List ℕ) → Bool
+some_end [] = false
+some_end (l ∷ ls) = has_end l || some_end ls
 
 pub record Split (i : List ℕ) (ls : List (List ℕ)) (rest : List ℕ) : Type 0 where
   pub whole : i ≡ joined ls rest
-  pub lines : someEnd ls ≡ false
-  pub behind : hasEnd rest ≡ false
+  pub lines : some_end ls ≡ false
+  pub behind : has_end rest ≡ false

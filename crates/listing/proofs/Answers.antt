@@ -8,36 +8,36 @@ use borrow.Author.Tests.{ltb-true, ltb-false, lt-ltb, le-ltb}
 use lib.Dec.{ltb}
 use lib.ListN.{length, take, length-map}
 use lib.Seq.{length-take-le}
-use Rattle.terms.specs.Editions.{isSecond, isUnknown, editionOf}
+use Rattle.terms.specs.Editions.{is_second, is_unknown, edition_of}
 use Rattle.terms.specs.declared.Edition.{Edition}
 use Rattle.terms.specs.declared.Edition.TheVariants.{E1, E2}
 use Rattle.walk.specs.Walk.{filled}
-use Rattle.walk.specs.Word.{visitsOf}
+use Rattle.walk.specs.Word.{visits_of}
 use Rattle.terms.specs.declared.Limit.{Limit}
 use Rattle.answers.specs.declared.Answer.{Answer}
 use Rattle.answers.specs.declared.Answer.TheVariants as answer
 use Rattle.answers.specs.declared.Reply.{Reply}
 use Rattle.answers.specs.declared.Reply.TheVariants as reply
 use Rattle.trimming.specs.Trim.{trimmed}
-use Rattle.ascii.specs.High.{firstHigh}
-use Rattle.terms.specs.Limits.{wordLimit}
-use Rattle.encoder.specs.Encode.{number_of, place_of, visitCount, visitsUnder, Encoded}
-use Rattle.editions.specs.Editions.{replyOf, replyNumber, EncodedIn}
-use Rattle.trimming.proofs.Trim.{trimmed-length}
-use Rattle.demands.proofs.Demand2.{code-accepted, code-walked}
-use Rattle.editions.proofs.Editions.{edition-seven, edition-encoded}
-use Rattle.demands.proofs.Room.{never-three, never-four}
-use Rattle.rows.specs.Listing.{row_at, listingOf, allNumbers}
-use Rattle.rows.proofs.Rows.{visits-within}
+use Rattle.ascii.specs.High.{first_high}
+use Rattle.terms.specs.Limits.{word_limit}
+use Rattle.encoder.specs.Encode.{number_of, place_of, visitCount, visits_under, Encoded}
+use Rattle.editions.specs.Editions.{reply_of, reply_number, EncodedIn}
+use Rattle.trimming.proofs.Trim.{trimmed_length}
+use Rattle.demands.proofs.Demand2.{code_accepted, code_walked}
+use Rattle.editions.proofs.Editions.{edition_seven, edition_encoded}
+use Rattle.demands.proofs.Room.{never_three, never_four}
+use Rattle.rows.specs.Listing.{row_at, listing_of, all_numbers}
+use Rattle.rows.proofs.Rows.{visits_within}
 use Rattle.listing.specs.declared.Told.{Told}
 use Rattle.listing.specs.declared.Told.TheVariants.{Rows, TooLong, NotAscii, UnknownEdition, RoomShort}
 use Rattle.listing.specs.Table.{Given}
-use Rattle.listing.specs.Listing.{inRoom, leftIn, toldOf, roomOf, Explained}
-use Rattle.row_writer.specs.Written.{editionIf, firstRows}
+use Rattle.listing.specs.Listing.{in_room, left_in, told_of, room_of, Explained}
+use Rattle.row_writer.specs.Written.{edition_if, first_rows}
 
 -- ---- each number exactly when, by its four tests
 module _ (n high room visits : ℕ) where
-  by_tests : (u : Bool) (q₁ : Bool) → ltb wordLimit n ≡ q₁ → (q₂ : Bool) → ltb high n ≡ q₂ → (q₃ : Bool) → ltb room visits ≡ q₃
+  by_tests : (u : Bool) (q₁ : Bool) → ltb word_limit n ≡ q₁ → (q₂ : Bool) → ltb high n ≡ q₂ → (q₃ : Bool) → ltb room visits ≡ q₃
       → Given u n high room visits (cond u UnknownEdition (cond q₁ TooLong (cond q₂ (NotAscii high) (cond q₃ RoomShort (Rows visits)))))
   by_tests true q₁ e q₂ f q₃ g = of-unknown
     where
@@ -55,7 +55,7 @@ module _ (n high room visits : ℕ) where
             no_rows = λ h. refl;
           }
   by_tests false true e q₂ f q₃ g =
-      let i : wordLimit < n = ltb-true _ _ e in
+      let i : word_limit < n = ltb-true _ _ e in
       record {
         seven = (λ h. absurd (omega arith), λ h. absurd (false≢true h));
         one = (λ h. (refl, i), λ h. refl);
@@ -68,7 +68,7 @@ module _ (n high room visits : ℕ) where
         no_rows = λ h. refl;
       }
   by_tests false false e true f q₃ g =
-      let i : n ≤ wordLimit = ltb-false _ _ e in
+      let i : n ≤ word_limit = ltb-false _ _ e in
       let j : high < n = ltb-true _ _ f in
       record {
         seven = (λ h. absurd (omega arith), λ h. absurd (false≢true h));
@@ -82,7 +82,7 @@ module _ (n high room visits : ℕ) where
         no_rows = λ h. refl;
       }
   by_tests false false e false f true g =
-      let i : n ≤ wordLimit = ltb-false _ _ e in
+      let i : n ≤ word_limit = ltb-false _ _ e in
       let j : n ≤ high = ltb-false _ _ f in
       let k : room < visits = ltb-true _ _ g in
       record {
@@ -97,7 +97,7 @@ module _ (n high room visits : ℕ) where
         no_rows = λ h. refl;
       }
   by_tests false false e false f false g =
-      let i : n ≤ wordLimit = ltb-false _ _ e in
+      let i : n ≤ word_limit = ltb-false _ _ e in
       let j : n ≤ high = ltb-false _ _ f in
       let k : visits ≤ room = ltb-false _ _ g in
       record {
@@ -115,99 +115,99 @@ module _ (n high room visits : ℕ) where
 -- ---- the answer and the room
 module _ (n : ℕ) (l : Limit) (w room : List ℕ) where
   abbrev visits : ℕ
-  visits = visitsUnder (editionOf n) l (trimmed w)
+  visits = visits_under (edition_of n) l (trimmed w)
 
-  explained : {r : Told} {room' : List ℕ} → r ≡ toldOf n l w (length room) → room' ≡ roomOf n l w room → Explained n l w room r room'
+  explained : {r : Told} {room' : List ℕ} → r ≡ told_of n l w (length room) → room' ≡ room_of n l w room → Explained n l w room r room'
   explained e f =
       record {
         given =
-            subst (λ (r : Told). Given (isUnknown n) (length w) (firstHigh w) (length room / 7) visits r) (sym e)
-            (by_tests (length w) (firstHigh w) (length room / 7) visits (isUnknown n) _ refl _ refl _ refl);
+            subst (λ (r : Told). Given (is_unknown n) (length w) (first_high w) (length room / 7) visits r) (sym e)
+            (by_tests (length w) (first_high w) (length room / 7) visits (is_unknown n) _ refl _ refl _ refl);
         answer = e;
         rows = f;
       }
 
-  pub unknown : isUnknown n ≡ true → Explained n l w room UnknownEdition room
+  pub unknown : is_unknown n ≡ true → Explained n l w room UnknownEdition room
   unknown e = explained (rw e) (rw e)
 
-  pub too_long : isUnknown n ≡ false → wordLimit < length w → Explained n l w room TooLong room
-  too_long e h = explained (rw (e, lt-ltb wordLimit (length w) h)) (rw (e, lt-ltb wordLimit (length w) h))
+  pub too_long_lem : is_unknown n ≡ false → word_limit < length w → Explained n l w room TooLong room
+  too_long_lem e h = explained (rw (e, lt-ltb word_limit (length w) h)) (rw (e, lt-ltb word_limit (length w) h))
 
-  pub not_ascii : isUnknown n ≡ false → length w ≤ wordLimit → firstHigh w < length w → (at : ℕ) → at ≡ firstHigh w → Explained n l w room (NotAscii at) room
-  not_ascii e h k at f =
-      explained (rw (e, le-ltb wordLimit (length w) h, lt-ltb (firstHigh w) (length w) k, f)) (rw (e, le-ltb wordLimit (length w) h, lt-ltb (firstHigh w) (length w) k))
+  pub not_ascii_lem : is_unknown n ≡ false → length w ≤ word_limit → first_high w < length w → (at : ℕ) → at ≡ first_high w → Explained n l w room (NotAscii at) room
+  not_ascii_lem e h k at f =
+      explained (rw (e, le-ltb word_limit (length w) h, lt-ltb (first_high w) (length w) k, f)) (rw (e, le-ltb word_limit (length w) h, lt-ltb (first_high w) (length w) k))
 
-  pub listed : isUnknown n ≡ false → length w ≤ wordLimit → length w ≤ firstHigh w → {r : Told} {room' : List ℕ} → r ≡ inRoom (length room) visits
-      → room' ≡ leftIn (listingOf (editionOf n) l (trimmed w)) room → Explained n l w room r room'
+  pub listed : is_unknown n ≡ false → length w ≤ word_limit → length w ≤ first_high w → {r : Told} {room' : List ℕ} → r ≡ in_room (length room) visits
+      → room' ≡ left_in (listing_of (edition_of n) l (trimmed w)) room → Explained n l w room r room'
   listed e h k f g =
-      explained (rw (e, le-ltb wordLimit (length w) h, le-ltb (firstHigh w) (length w) k) f) (rw (e, le-ltb wordLimit (length w) h, le-ltb (firstHigh w) (length w) k) g)
+      explained (rw (e, le-ltb word_limit (length w) h, le-ltb (first_high w) (length w) k) f) (rw (e, le-ltb word_limit (length w) h, le-ltb (first_high w) (length w) k) g)
 
 -- ---- the rows of the first visits
-first-many : (ed : Edition) (k : ℕ) (t : List ℕ) → k ≤ length (visitsOf ed t) → length (firstRows ed k t) ≡ k
-unfolding firstRows
-first-many ed k t h = length-map (take k (visitsOf ed t)) (row_at ed t) ∙ length-take-le k (visitsOf ed t) h
+first-many : (ed : Edition) (k : ℕ) (t : List ℕ) → k ≤ length (visits_of ed t) → length (first_rows ed k t) ≡ k
+unfolding first_rows
+first-many ed k t h = length-map (take k (visits_of ed t)) (row_at ed t) ∙ length-take-le k (visits_of ed t) h
 
-module _ (ed : Edition) (k : ℕ) (t room : List ℕ) (h : k ≤ length (visitsOf ed t)) where
-  pub short : length room / 7 < k → (RoomShort ≡ inRoom (length room) k) × (room ≡ leftIn (firstRows ed k t) room)
+module _ (ed : Edition) (k : ℕ) (t room : List ℕ) (h : k ≤ length (visits_of ed t)) where
+  pub short : length room / 7 < k → (RoomShort ≡ in_room (length room) k) × (room ≡ left_in (first_rows ed k t) room)
   short l = (rw (lt-ltb (length room / 7) k l), rw (first-many ed k t h, lt-ltb (length room / 7) k l))
 
-  pub enough : k ≤ length room / 7 → {room' : List ℕ} → room' ≡ filled (allNumbers (firstRows ed k t)) room → (Rows k ≡ inRoom (length room) k) × (room' ≡ leftIn (firstRows ed k t) room)
+  pub enough : k ≤ length room / 7 → {room' : List ℕ} → room' ≡ filled (all_numbers (first_rows ed k t)) room → (Rows k ≡ in_room (length room) k) × (room' ≡ left_in (first_rows ed k t) room)
   enough l e = (rw (le-ltb (length room / 7) k l), rw (first-many ed k t h, le-ltb (length room / 7) k l) e)
 
 -- ---- what the encoder's answer says
-edition-back : (e : Edition) → editionIf (isSecond e) ≡ e
+edition-back : (e : Edition) → edition_if (is_second e) ≡ e
 edition-back E1 = refl
 edition-back E2 = refl
 
 module _ {n : ℕ} {l : Limit} {w p a p' a' : List ℕ} {y : Reply} (e : EncodedIn n l w p a y p' a') where
   -- 7 is the edition's
-  pub asked-unknown : y ≡ reply.UnknownEdition → isUnknown n ≡ true
-  asked-unknown q = (edition-seven e).0 (ap replyNumber q)
+  pub asked-unknown : y ≡ reply.UnknownEdition → is_unknown n ≡ true
+  asked-unknown q = (edition_seven e).0 (ap reply_number q)
 
   module _ (r : Answer) (q : y ≡ reply.Answered r) where
-    pub asked-known : isUnknown n ≡ false
-    asked-known = by (isUnknown n) refl
+    pub asked-known : is_unknown n ≡ false
+    asked-known = by (is_unknown n) refl
       where
-        by : (b : Bool) → isUnknown n ≡ b → isUnknown n ≡ false
+        by : (b : Bool) → is_unknown n ≡ b → is_unknown n ≡ false
         by true h =
-            let f : replyOf n l w (length p) (length a) ≡ reply.UnknownEdition = rw h in
+            let f : reply_of n l w (length p) (length a) ≡ reply.UnknownEdition = rw h in
             let z : ◌≡◌ {A = ℕ} 0 1 = cc (sym q ∙ e.answer ∙ f) in absurd (omega arith)
         by false h = h
 
-    encoded : Encoded (editionOf n) l w p a r p' a'
-    encoded = edition-encoded asked-known (subst (λ (z : Reply). EncodedIn n l w p a z p' a') q e)
+    encoded : Encoded (edition_of n) l w p a r p' a'
+    encoded = edition_encoded asked-known (subst (λ (z : Reply). EncodedIn n l w p a z p' a') q e)
 
-    pub answered-long : r ≡ answer.TooLong → wordLimit < length w
+    pub answered-long : r ≡ answer.TooLong → word_limit < length w
     answered-long f = encoded.given.one.0 (ap number_of f)
 
-    pub answered-high : (at : ℕ) → r ≡ answer.NotAscii at → (length w ≤ wordLimit) × (firstHigh w < length w) × (at ≡ firstHigh w)
+    pub answered-high : (at : ℕ) → r ≡ answer.NotAscii at → (length w ≤ word_limit) × (first_high w < length w) × (at ≡ first_high w)
     answered-high at f =
         let g = encoded.given.two.0 (ap number_of f) in
         (g.0, g.1, sym (ap place_of f) ∙ encoded.given.place (ap number_of f))
 
     -- with room for any code no buffer is too short
-    pub answered-three : 2 * wordLimit - 1 ≤ length p → 2 * wordLimit - 1 ≤ length a → r ≡ answer.PrimaryShort → ⊥
-    answered-three i j f = never-three encoded i j (ap number_of f)
+    pub answered-three : 2 * word_limit - 1 ≤ length p → 2 * word_limit - 1 ≤ length a → r ≡ answer.PrimaryShort → ⊥
+    answered-three i j f = never_three encoded i j (ap number_of f)
 
-    pub answered-four : 2 * wordLimit - 1 ≤ length p → 2 * wordLimit - 1 ≤ length a → r ≡ answer.AlternateShort → ⊥
-    answered-four i j f = never-four encoded i j (ap number_of f)
+    pub answered-four : 2 * word_limit - 1 ≤ length p → 2 * word_limit - 1 ≤ length a → r ≡ answer.AlternateShort → ⊥
+    answered-four i j f = never_four encoded i j (ap number_of f)
 
     -- an code-accepted word, and its visits
     module _ (i j k : ℕ) (f : r ≡ answer.Coded i j k) where
-      pub answered-fits : (length w ≤ wordLimit) × (length w ≤ firstHigh w)
+      pub answered-fits : (length w ≤ word_limit) × (length w ≤ first_high w)
       answered-fits = let g = encoded.given.accepted.0 (ap number_of f) in (g.0, g.1)
 
-      pub answered-visits : k ≡ visitsUnder (editionOf n) l (trimmed w)
-      answered-visits = sym (ap visitCount f) ∙ ap visitCount (code-walked (editionOf n) (code-accepted encoded (ap number_of f)) encoded).answer
+      pub answered-visits : k ≡ visits_under (edition_of n) l (trimmed w)
+      answered-visits = sym (ap visitCount f) ∙ ap visitCount (code_walked (edition_of n) (code_accepted encoded (ap number_of f)) encoded).answer
 
       -- the rows of its first visits, by the edition that the test tells, are its listing
-      module _ (second : Bool) (ed : Edition) (s : second ≡ isSecond ed) (d : ed ≡ editionOf n) (t : List ℕ) (g : t ≡ trimmed w) where
-        edition-is : editionIf second ≡ editionOf n
-        edition-is = ap editionIf s ∙ edition-back ed ∙ d
+      module _ (second : Bool) (ed : Edition) (s : second ≡ is_second ed) (d : ed ≡ edition_of n) (t : List ℕ) (g : t ≡ trimmed w) where
+        edition-is : edition_if second ≡ edition_of n
+        edition-is = ap edition_if s ∙ edition-back ed ∙ d
 
-        pub asks-few : (length t ≤ wordLimit) × (k ≤ length (visitsOf (editionIf second) t))
-        asks-few = rw (g, edition-is, answered-visits) (omega (arith, trimmed-length w, answered-fits), visits-within (editionOf n) l (trimmed w))
+        pub asks-few : (length t ≤ word_limit) × (k ≤ length (visits_of (edition_if second) t))
+        asks-few = rw (g, edition-is, answered-visits) (omega (arith, trimmed_length w, answered-fits), visits_within (edition_of n) l (trimmed w))
 
-        pub rows_are : firstRows (editionIf second) k t ≡ listingOf (editionOf n) l (trimmed w)
-        unfolding firstRows listingOf
+        pub rows_are : first_rows (edition_if second) k t ≡ listing_of (edition_of n) l (trimmed w)
+        unfolding first_rows listing_of
         rows_are = rw (g, edition-is, answered-visits)

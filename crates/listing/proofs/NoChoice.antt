@@ -9,8 +9,8 @@ use contract.Lifetimes.{Lfts}
 -- the edition, the limit, the word and the room: the room at exit is the fourth
 module _ (κs : Lfts 2) (a : Dens κs explain-kinds.ps) (x y : (res_t explain-kinds.r κs).Denot) (s t : AtExit (ended_of 2 explain-kinds.ps explain-kinds.r) κs)
     (p : explain.Post κs a x s) (q : explain.Post κs a y t) where
-  pub one-explain : x ≡ y
-  one-explain = p.answer ∙ sym q.answer
+  pub one_explain : x ≡ y
+  one_explain = p.answer ∙ sym q.answer
 
-  pub one-room : s.1.1.1.0.now ≡ t.1.1.1.0.now
-  one-room = p.rows ∙ sym q.rows
+  pub one_room : s.1.1.1.0.now ≡ t.1.1.1.0.now
+  one_room = p.rows ∙ sym q.rows

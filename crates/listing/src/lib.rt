@@ -1,10 +1,10 @@
 // The listing: for each visit of a word which case spoke, by which text, what it adds and passes over, as rows of seven numbers in lent
 // room. The encoder is asked first: its refusals are the listing's, and its visits are the rows.
 ghost use Rattle.std.specs.Prelude.{◌≡◌, ◌≤◌, length};
-ghost use Rattle.terms.specs.Limits.{wordLimit};
-ghost use Rattle.walk.specs.Word.{visitsOf};
-ghost use Rattle.row_writer.specs.Written.{editionIf, firstRows};
-ghost use Rattle.listing.specs.Listing.{inRoom, leftIn, Explained};
+ghost use Rattle.terms.specs.Limits.{word_limit};
+ghost use Rattle.walk.specs.Word.{visits_of};
+ghost use Rattle.row_writer.specs.Written.{edition_if, first_rows};
+ghost use Rattle.listing.specs.Listing.{in_room, left_in, Explained};
 
 use answers::{Answer, Reply};
 use row::ROW;
@@ -22,9 +22,9 @@ pub enum Told {
 
 // The rows of the first visits, where all of them fit.
 fn list(t: &[u8], second: bool, visits: usize, rows: &mut [u32]) -> Told
-    requires { (length t.now ≤ wordLimit) × (visits ≤ length (visitsOf (editionIf second) t.now)) }
-    ensures answer { result ≡ inRoom (length rows.old) visits }
-    ensures content { rows.new ≡ leftIn (firstRows (editionIf second) visits t.now) rows.old }
+    requires { (length t.now ≤ word_limit) × (visits ≤ length (visits_of (edition_if second) t.now)) }
+    ensures answer { result ≡ in_room (length rows.old) visits }
+    ensures content { rows.new ≡ left_in (first_rows (edition_if second) visits t.now) rows.old }
 {
     if rows.len() / ROW < visits {
         return Told::RoomShort;

@@ -6,6 +6,6 @@ use Rattle.terms.specs.declared.Limit.{Limit}
 use Rattle.terms.specs.declared.Limit.TheVariants.{Whole, At}
 use Rattle.needs.specs.Needs.{need_of}
 
-pub need-none : (l : Limit) (t : ℕ) → t ≡ 0 → 0 ≡ need_of l t
-need-none Whole t e = omega arith
-need-none (At n) t e = omega arith
+pub need_none : (l : Limit) (t : ℕ) → t ≡ 0 → 0 ≡ need_of l t
+need_none Whole t e = omega arith
+need_none (At n) t e = omega arith

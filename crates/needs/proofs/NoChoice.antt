@@ -6,8 +6,8 @@ use Rattle.needs.proofs.need_of.Reads as need-of
 use Rattle.needs.proofs.cap_of.Kinds as cap-of-kinds
 use Rattle.needs.proofs.cap_of.Reads as cap-of
 
-pub one-need-of : OneResult need-of-kinds.ps need-of-kinds.r need-of.Post
-one-need-of κs a x y s t p q = p ∙ sym q
+pub one_need_of : OneResult need-of-kinds.ps need-of-kinds.r need-of.Post
+one_need_of κs a x y s t p q = p ∙ sym q
 
-pub one-cap-of : OneResult cap-of-kinds.ps cap-of-kinds.r cap-of.Post
-one-cap-of κs a x y s t p q = p ∙ sym q
+pub one_cap_of : OneResult cap-of-kinds.ps cap-of-kinds.r cap-of.Post
+one_cap_of κs a x y s t p q = p ∙ sym q

@@ -12,16 +12,16 @@ use Rattle.number.proofs.write_number.Kinds as write-number-kinds
 use Rattle.number.proofs.write_number.Reads as write-number
 use contract.Lifetimes.{Lfts}
 
-pub one-read-number : OneResult read-number-kinds.ps read-number-kinds.r read_number.Post
-one-read-number κs a x y s t p q = p ∙ sym q
+pub one_read_number : OneResult read-number-kinds.ps read-number-kinds.r read_number.Post
+one_read_number κs a x y s t p q = p ∙ sym q
 
 pub one_width : OneResult width-kinds.ps width-kinds.r width.Post
 one_width κs a x y s t p q = p ∙ sym q
 
-pub one-write-number : OneResult write-number-kinds.ps write-number-kinds.r write-number.Post
-one-write-number κs a x y s t p q = p.0 ∙ sym q.0
+pub one_write_number : OneResult write-number-kinds.ps write-number-kinds.r write-number.Post
+one_write_number κs a x y s t p q = p.0 ∙ sym q.0
 
 -- the room at exit is the first
 module _ (κs : Lfts 1) (a : Dens κs write-number-kinds.ps) (x y : (res_t write-number-kinds.r κs).Denot) (s t : AtExit (ended_of 1 write-number-kinds.ps write-number-kinds.r) κs) where
-  pub one-room : write-number.Post κs a x s → write-number.Post κs a y t → s.0.now ≡ t.0.now
-  one-room p q = p.1 ∙ sym q.1
+  pub one_room : write-number.Post κs a x s → write-number.Post κs a y t → s.0.now ≡ t.0.now
+  one_room p q = p.1 ∙ sym q.1

@@ -14,20 +14,20 @@ use Rattle.outcome.proofs.Spoken.either.Reads as spoken-either
 use Rattle.outcome.proofs.or_else.Kinds as or-else-kinds
 use Rattle.outcome.proofs.or_else.Reads as or_else
 
-pub one-both : OneResult both-kinds.ps both-kinds.r both.Post
-one-both κs a x y s t p q = p ∙ sym q
+pub one_both : OneResult both-kinds.ps both-kinds.r both.Post
+one_both κs a x y s t p q = p ∙ sym q
 
 pub one_split : OneResult split-kinds.ps split-kinds.r split.Post
 one_split κs a x y s t p q = p ∙ sym q
 
-pub one-spoken-both : OneResult spoken-both-kinds.ps spoken-both-kinds.r spoken-both.Post
-one-spoken-both κs a x y s t p q = p ∙ sym q
+pub one_spoken_both : OneResult spoken-both-kinds.ps spoken-both-kinds.r spoken-both.Post
+one_spoken_both κs a x y s t p q = p ∙ sym q
 
-pub one-spoken-split : OneResult spoken-split-kinds.ps spoken-split-kinds.r spoken-split.Post
-one-spoken-split κs a x y s t p q = p ∙ sym q
+pub one_spoken_split : OneResult spoken-split-kinds.ps spoken-split-kinds.r spoken-split.Post
+one_spoken_split κs a x y s t p q = p ∙ sym q
 
-pub one-spoken-either : OneResult spoken-either-kinds.ps spoken-either-kinds.r spoken-either.Post
-one-spoken-either κs a x y s t p q = p ∙ sym q
+pub one_spoken_either : OneResult spoken-either-kinds.ps spoken-either-kinds.r spoken-either.Post
+one_spoken_either κs a x y s t p q = p ∙ sym q
 
-pub one-or-else : OneResult or-else-kinds.ps or-else-kinds.r or_else.Post
-one-or-else κs a x y s t p q = p ∙ sym q
+pub one_or_else : OneResult or-else-kinds.ps or-else-kinds.r or_else.Post
+one_or_else κs a x y s t p q = p ∙ sym q

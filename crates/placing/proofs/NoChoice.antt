@@ -8,10 +8,10 @@ use Rattle.placing.proofs.append_coded.Kinds as append-coded-kinds
 use Rattle.placing.proofs.append_coded.Reads as append-coded
 use contract.Lifetimes.{Lfts}
 
-pub one-append-coded : OneResult append-coded-kinds.ps append-coded-kinds.r append-coded.Post
-one-append-coded κs a x y s t p q = p.answer ∙ sym q.answer
+pub one_append_coded : OneResult append-coded-kinds.ps append-coded-kinds.r append-coded.Post
+one_append_coded κs a x y s t p q = p.answer ∙ sym q.answer
 
 -- the room at exit
 module _ (κs : Lfts 4) (a : Dens κs append-coded-kinds.ps) (x y : (res_t append-coded-kinds.r κs).Denot) (s t : AtExit (ended_of 4 append-coded-kinds.ps append-coded-kinds.r) κs) where
-  pub one-append-coded-room : append-coded.Post κs a x s → append-coded.Post κs a y t → s.0.now ≡ t.0.now
-  one-append-coded-room p q = p.leaves ∙ sym q.leaves
+  pub one_append_coded_room : append-coded.Post κs a x s → append-coded.Post κs a y t → s.0.now ≡ t.0.now
+  one_append_coded_room p q = p.leaves ∙ sym q.leaves

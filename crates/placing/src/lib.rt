@@ -1,9 +1,9 @@
 // A record whose codes are made, put behind the end of a station key book in lent room. A refusal changes nothing.
 ghost use Rattle.std.specs.Prelude.{◌≡◌, ◌≤◌, ◌+◌, leb, length};
-ghost use Rattle.terms.specs.Limits.{wordLimit, codeRoom};
-ghost use Rattle.entry.specs.Entry.{entryBytes};
-ghost use Rattle.putting.specs.Laid.{Placed, entryWith};
-ghost use Rattle.placing.specs.Placing.{stationFault, floorWhere};
+ghost use Rattle.terms.specs.Limits.{word_limit, code_room};
+ghost use Rattle.entry.specs.Entry.{entry_bytes};
+ghost use Rattle.putting.specs.Laid.{Placed, entry_with};
+ghost use Rattle.placing.specs.Placing.{station_fault, floor_where};
 
 use number::LARGEST;
 use putting::Made;
@@ -12,7 +12,7 @@ use terms::{BAD_NUMBER, NO_ROOM, NOT_ABOVE};
 // The least station of a record behind an end. Where the record does not fit there, closed ones of a format 2 book may give room back: its
 // station is then for `add` to judge.
 fn floor_where(fits: bool, format: u32, floor: u32) -> u32
-    ensures { result ≡ floorWhere fits format floor }
+    ensures { result ≡ floor_where fits format floor }
 {
     if fits {
         return floor;
@@ -34,11 +34,11 @@ pub fn append_coded(
     primary: &[u8],
     alternate: &[u8],
 ) -> Made
-    requires { (len ≤ length room.old) × (length name.now ≤ wordLimit) × (length primary.now ≤ codeRoom) × (length alternate.now ≤ codeRoom) }
+    requires { (len ≤ length room.old) × (length name.now ≤ word_limit) × (length primary.now ≤ code_room) × (length alternate.now ≤ code_room) }
     ensures { Placed
-        (stationFault (floorWhere (leb (len + length (entryBytes format (entryWith station name.now primary.now alternate.now))) (length room.old)) format floor) station)
+        (station_fault (floor_where (leb (len + length (entry_bytes format (entry_with station name.now primary.now alternate.now))) (length room.old)) format floor) station)
         room.old len
-        (entryBytes format (entryWith station name.now primary.now alternate.now)) result room.new }
+        (entry_bytes format (entry_with station name.now primary.now alternate.now)) result room.new }
 {
     if LARGEST < station {
         return Made::Fault(BAD_NUMBER);

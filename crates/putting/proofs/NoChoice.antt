@@ -12,21 +12,21 @@ use Rattle.putting.proofs.entry_size.Kinds as entry-size-kinds
 use Rattle.putting.proofs.entry_size.Reads as entry-size
 use contract.Lifetimes.{Lfts}
 
-pub one-put-header : OneResult put-header-kinds.ps put-header-kinds.r put-header.Post
-one-put-header κs a x y s t p q = p.next ∙ sym q.next
+pub one_put_header : OneResult put-header-kinds.ps put-header-kinds.r put-header.Post
+one_put_header κs a x y s t p q = p.next ∙ sym q.next
 
 -- the room at exit
 module _ (κs : Lfts 1) (a : Dens κs put-header-kinds.ps) (x y : (res_t put-header-kinds.r κs).Denot) (s t : AtExit (ended_of 1 put-header-kinds.ps put-header-kinds.r) κs) where
-  pub one-put-header-room : put-header.Post κs a x s → put-header.Post κs a y t → s.0.now ≡ t.0.now
-  one-put-header-room p q = p.leaves ∙ sym q.leaves
+  pub one_put_header_room : put-header.Post κs a x s → put-header.Post κs a y t → s.0.now ≡ t.0.now
+  one_put_header_room p q = p.leaves ∙ sym q.leaves
 
-pub one-put-entry : OneResult put-entry-kinds.ps put-entry-kinds.r put-entry.Post
-one-put-entry κs a x y s t p q = p.next ∙ sym q.next
+pub one_put_entry : OneResult put-entry-kinds.ps put-entry-kinds.r put-entry.Post
+one_put_entry κs a x y s t p q = p.next ∙ sym q.next
 
 -- the room at exit
 module _ (κs : Lfts 4) (a : Dens κs put-entry-kinds.ps) (x y : (res_t put-entry-kinds.r κs).Denot) (s t : AtExit (ended_of 4 put-entry-kinds.ps put-entry-kinds.r) κs) where
-  pub one-put-entry-room : put-entry.Post κs a x s → put-entry.Post κs a y t → s.0.now ≡ t.0.now
-  one-put-entry-room p q = p.leaves ∙ sym q.leaves
+  pub one_put_entry_room : put-entry.Post κs a x s → put-entry.Post κs a y t → s.0.now ≡ t.0.now
+  one_put_entry_room p q = p.leaves ∙ sym q.leaves
 
-pub one-entry-size : OneResult entry-size-kinds.ps entry-size-kinds.r entry-size.Post
-one-entry-size κs a x y s t p q = p ∙ sym q
+pub one_entry_size : OneResult entry-size-kinds.ps entry-size-kinds.r entry-size.Post
+one_entry_size κs a x y s t p q = p ∙ sym q

@@ -1,7 +1,7 @@
 -- What laying bytes into lent room answers and leaves there.
 use Rattle.std.specs.Prelude.{ℕ, ◌+◌, ◌≡◌, cond, List, ltb, eqb, length}
 use Rattle.std.proofs.lemmas.List.Edits.{sets}
-use Rattle.terms.specs.Refusals.{noRoom}
+use Rattle.terms.specs.Refusals.{no_room}
 use Rattle.putting.specs.declared.Made.{Made}
 use Rattle.putting.specs.declared.Made.TheVariants.{Length, Fault}
 use Rattle.entry.specs.Entry.{Record, Entry}
@@ -9,7 +9,7 @@ use Rattle.entry.specs.Entry.{Record, Entry}
 -- ---- bytes that are laid into lent room at a place, unless something is at fault before: the room is tested last
 abbrev pub placed : ℕ → ℕ → ℕ → List ℕ → Made
 placed fault room at bytes =
-    cond (eqb fault 0) (cond (ltb room (at + length bytes)) (Fault noRoom) (Length (at + length bytes))) (Fault fault)
+    cond (eqb fault 0) (cond (ltb room (at + length bytes)) (Fault no_room) (Length (at + length bytes))) (Fault fault)
 
 -- a refusal changes nothing
 abbrev pub left : Made → List ℕ → ℕ → List ℕ → List ℕ
@@ -20,9 +20,9 @@ pub record Placed (fault : ℕ) (room : List ℕ) (at : ℕ) (bytes : List ℕ) 
   pub answer : r ≡ placed fault (length room) at bytes
   pub leaves : room' ≡ left (placed fault (length room) at bytes) room at bytes
 
-abbrev pub recordWith : ℕ → List ℕ → List ℕ → List ℕ → Record
-recordWith station name primary alternate = record { station = station; name = name; primary = primary; alternate = alternate }
+abbrev pub record_with : ℕ → List ℕ → List ℕ → List ℕ → Record
+record_with station name primary alternate = record { station = station; name = name; primary = primary; alternate = alternate }
 
 -- a new record is live
-abbrev pub entryWith : ℕ → List ℕ → List ℕ → List ℕ → Entry
-entryWith station name primary alternate = record { kind = 1; body = recordWith station name primary alternate }
+abbrev pub entry_with : ℕ → List ℕ → List ℕ → List ℕ → Entry
+entry_with station name primary alternate = record { kind = 1; body = record_with station name primary alternate }

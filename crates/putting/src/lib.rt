@@ -1,10 +1,10 @@
 // A header or a record put in lent room that has room for it, and how many bytes it takes.
 ghost use Rattle.std.specs.Prelude.{◌≡◌, ◌++◌, ◌+◌, ◌^◌, ◌≤◌, ◌<◌, length};
-ghost use Rattle.terms.specs.Limits.{wordLimit, codeRoom};
+ghost use Rattle.terms.specs.Limits.{word_limit, code_room};
 ghost use Rattle.fields.specs.Field.{number, text};
 ghost use Rattle.fields.specs.Put.{Put};
-ghost use Rattle.entry.specs.Entry.{recordBytes, entryBytes};
-ghost use Rattle.putting.specs.Laid.{recordWith, entryWith};
+ghost use Rattle.entry.specs.Entry.{record_bytes, entry_bytes};
+ghost use Rattle.putting.specs.Laid.{record_with, entry_with};
 
 // The length of the book that was made.
 #[derive(Drop)]
@@ -31,8 +31,8 @@ fn put_record(
     alternate: &[u8],
 ) -> usize
     requires { (station < 2 ^ 28) × (length name.now < 2 ^ 28) × (length primary.now < 2 ^ 28) × (length alternate.now < 2 ^ 28)
-        × (at + length (recordBytes (recordWith station name.now primary.now alternate.now)) ≤ length out.old) }
-    ensures { Put out.old at (recordBytes (recordWith station name.now primary.now alternate.now)) result out.new }
+        × (at + length (record_bytes (record_with station name.now primary.now alternate.now)) ≤ length out.old) }
+    ensures { Put out.old at (record_bytes (record_with station name.now primary.now alternate.now)) result out.new }
 {
     let first = fields::put_number(out, at, station);
     let second = fields::put_text(out, first, name);
@@ -51,8 +51,8 @@ pub fn put_header(out: &mut [u8], at: usize, format: u32, edition: u32, cut: u32
 
 // How many bytes a record takes.
 fn record_size(station: u32, name: &[u8], primary: &[u8], alternate: &[u8]) -> usize
-    requires { (length name.now ≤ wordLimit) × (length primary.now ≤ codeRoom) × (length alternate.now ≤ codeRoom) }
-    ensures { result ≡ length (recordBytes (recordWith station name.now primary.now alternate.now)) }
+    requires { (length name.now ≤ word_limit) × (length primary.now ≤ code_room) × (length alternate.now ≤ code_room) }
+    ensures { result ≡ length (record_bytes (record_with station name.now primary.now alternate.now)) }
 {
     let front = number::width(station) + fields::text_size(name);
     front + (fields::text_size(primary) + fields::text_size(alternate))
@@ -60,8 +60,8 @@ fn record_size(station: u32, name: &[u8], primary: &[u8], alternate: &[u8]) -> u
 
 // How many bytes a live record takes, with its kind.
 pub fn entry_size(format: u32, station: u32, name: &[u8], primary: &[u8], alternate: &[u8]) -> usize
-    requires { (length name.now ≤ wordLimit) × (length primary.now ≤ codeRoom) × (length alternate.now ≤ codeRoom) }
-    ensures { result ≡ length (entryBytes format (entryWith station name.now primary.now alternate.now)) }
+    requires { (length name.now ≤ word_limit) × (length primary.now ≤ code_room) × (length alternate.now ≤ code_room) }
+    ensures { result ≡ length (entry_bytes format (entry_with station name.now primary.now alternate.now)) }
 {
     let size = record_size(station, name, primary, alternate);
     if format == 1 {
@@ -81,8 +81,8 @@ pub fn put_entry(
     alternate: &[u8],
 ) -> usize
     requires { (station < 2 ^ 28) × (length name.now < 2 ^ 28) × (length primary.now < 2 ^ 28) × (length alternate.now < 2 ^ 28)
-        × (at + length (entryBytes format (entryWith station name.now primary.now alternate.now)) ≤ length out.old) }
-    ensures { Put out.old at (entryBytes format (entryWith station name.now primary.now alternate.now)) result out.new }
+        × (at + length (entry_bytes format (entry_with station name.now primary.now alternate.now)) ≤ length out.old) }
+    ensures { Put out.old at (entry_bytes format (entry_with station name.now primary.now alternate.now)) result out.new }
 {
     if format == 1 {
         return put_record(out, at, station, name, primary, alternate);

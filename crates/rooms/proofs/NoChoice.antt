@@ -5,5 +5,5 @@ use Rattle.basics.proofs.Choice.{OneResult}
 use Rattle.rooms.proofs.mebibyte.Kinds as mebibyte-kinds
 use Rattle.rooms.proofs.mebibyte.Reads as mebibyte
 
-pub one-mebibyte : OneResult mebibyte-kinds.ps mebibyte-kinds.r mebibyte.Post
-one-mebibyte κs a x y s t p q = ext_get_or 0 _ _ (sym p.0 ∙ q.0) (λ i below. p.1 i ∙ sym (q.1 i))
+pub one_mebibyte : OneResult mebibyte-kinds.ps mebibyte-kinds.r mebibyte.Post
+one_mebibyte κs a x y s t p q = ext_get_or 0 _ _ (sym p.0 ∙ q.0) (λ i below. p.1 i ∙ sym (q.1 i))

@@ -7,5 +7,5 @@ use Rattle.row.proofs.put_row.Reads as put-row
 use contract.Lifetimes.{Lfts}
 
 module _ (κs : Lfts 1) (a : Dens κs put-row-kinds.ps) (x y : (res_t put-row-kinds.r κs).Denot) (s t : AtExit (ended_of 1 put-row-kinds.ps put-row-kinds.r) κs) where
-  pub one-put-row-room : put-row.Post κs a x s → put-row.Post κs a y t → s.0.now ≡ t.0.now
-  one-put-row-room p q = p ∙ sym (q)
+  pub one_put_row_room : put-row.Post κs a x s → put-row.Post κs a y t → s.0.now ≡ t.0.now
+  one_put_row_room p q = p ∙ sym (q)

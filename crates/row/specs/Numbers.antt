@@ -34,12 +34,12 @@ row_of b p s =
     }
 
 -- as numbers
-abbrev pub numbersOf : Row → List ℕ
-numbersOf r = r.place ∷ r.letter ∷ r.case ∷ r.text ∷ r.primary ∷ r.alternate ∷ r.over ∷ []
+abbrev pub numbers_of : Row → List ℕ
+numbers_of r = r.place ∷ r.letter ∷ r.case ∷ r.text ∷ r.primary ∷ r.alternate ∷ r.over ∷ []
 
 -- what a row tells fits its numbers
 pub record Small (place : ℕ) (s : Spoken) : Type 0 where
-  pub place-fits : place < 2 ^ 32
-  pub case-fits : s.case < 2 ^ 32
-  pub text-fits : s.text < 2 ^ 32
-  pub over-fits : s.visit.over < 2 ^ 32
+  pub place_fits : place < 2 ^ 32
+  pub case_fits : s.case < 2 ^ 32
+  pub text_fits : s.text < 2 ^ 32
+  pub over_fits : s.visit.over < 2 ^ 32

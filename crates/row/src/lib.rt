@@ -1,7 +1,7 @@
 // A visit as a row of seven numbers, written to lent room.
 ghost use Rattle.std.specs.Prelude.{◌≡◌, ◌+◌, ◌≤◌, ◌<◌, length};
 ghost use Rattle.std.proofs.lemmas.List.Edits.{sets};
-ghost use Rattle.row.specs.Numbers.{gained, row_of, numbersOf, Small};
+ghost use Rattle.row.specs.Numbers.{gained, row_of, numbers_of, Small};
 
 use outcome::{Add, Spoken};
 
@@ -28,7 +28,7 @@ fn gained(add: Add) -> u32
 // Writes the row of a visit from `at` on.
 pub fn put_row(rows: &mut [u32], at: usize, letter: u8, place: usize, spoken: Spoken)
     requires { (at + 7 ≤ length rows.old) × Small place spoken }
-    ensures { rows.new ≡ sets rows.old at (numbersOf (row_of letter place spoken)) }
+    ensures { rows.new ≡ sets rows.old at (numbers_of (row_of letter place spoken)) }
 {
     let visit = spoken.visit;
     let x = visit.primary;

@@ -8,5 +8,5 @@ use Rattle.row_writer.proofs.put_rows.Reads as put-rows
 use contract.Lifetimes.{Lfts}
 
 module _ (κs : Lfts 2) (a : Dens κs put-rows-kinds.ps) (x y : (res_t put-rows-kinds.r κs).Denot) (s t : AtExit (ended_of 2 put-rows-kinds.ps put-rows-kinds.r) κs) where
-  pub one-put-rows-room : put-rows.Post κs a x s → put-rows.Post κs a y t → s.1.1.1.0.now ≡ t.1.1.1.0.now
-  one-put-rows-room p q = p ∙ sym (q)
+  pub one_put_rows_room : put-rows.Post κs a x s → put-rows.Post κs a y t → s.1.1.1.0.now ≡ t.1.1.1.0.now
+  one_put_rows_room p q = p ∙ sym (q)

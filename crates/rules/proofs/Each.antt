@@ -8,22 +8,22 @@ use Rattle.byte.specs.Text.{bytes}
 use Rattle.byte.specs.Vowel.{among}
 use Rattle.basics.proofs.Tests.{both}
 use Rattle.rules.specs.Case.{Case}
-use Rattle.rules.specs.Plain.{casesRest}
+use Rattle.rules.specs.Plain.{cases_rest}
 use Rattle.rules.specs.Table.{Letter, cases_in}
 
 -- the test of a list of cases passes at each letter, and at the rest
-abbrev pub everyLetter : (List Case → Bool) → List Letter → Bool
-everyLetter f [] = f casesRest
-everyLetter f (r ∷ rs) = f r.cases && everyLetter f rs
+abbrev pub every_letter : (List Case → Bool) → List Letter → Bool
+every_letter f [] = f cases_rest
+every_letter f (r ∷ rs) = f r.cases && every_letter f rs
 
-in-letter : (f : List Case → Bool) (b : Bool) (x y : List Case) → f x ≡ true → f y ≡ true → f (cond b x y) ≡ true
-in-letter f true x y i j = i
-in-letter f false x y i j = j
+in_letter : (f : List Case → Bool) (b : Bool) (x y : List Case) → f x ≡ true → f y ≡ true → f (cond b x y) ≡ true
+in_letter f true x y i j = i
+in_letter f false x y i j = j
 
 -- then it passes at the cases of each byte
-pub letter-passes : (f : List Case → Bool) (rs : List Letter) (b : ℕ) → everyLetter f rs ≡ true → f (cases_in rs b) ≡ true
+pub letter_passes : (f : List Case → Bool) (rs : List Letter) (b : ℕ) → every_letter f rs ≡ true → f (cases_in rs b) ≡ true
 unfolding cases_in
-letter-passes f [] b e = e
-letter-passes f (r ∷ rs) b e =
-    let h = both (f r.cases) (everyLetter f rs) e in
-    in-letter f (among (bytes r.keys) b) r.cases (cases_in rs b) h.0 (letter-passes f rs b h.1)
+letter_passes f [] b e = e
+letter_passes f (r ∷ rs) b e =
+    let h = both (f r.cases) (every_letter f rs) e in
+    in_letter f (among (bytes r.keys) b) r.cases (cases_in rs b) h.0 (letter_passes f rs b h.1)

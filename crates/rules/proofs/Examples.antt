@@ -9,16 +9,16 @@ use lib.ListN.{length}
 use Rattle.byte.specs.Text.{bytes, up, upper}
 use Rattle.basics.specs.Same.{same}
 use Rattle.windows.specs.Window.{is_at, sees}
-use Rattle.spots.specs.Spot.{byte_at, vowelAt, endsAfter, isLong}
+use Rattle.spots.specs.Spot.{byte_at, vowel_at, ends_after, is_long}
 use Rattle.byte.specs.Vowel.{vowel}
 use Rattle.rules.specs.Cond.{marked, edited, holds}
 use Rattle.rules.specs.Case.{adds, first}
-use Rattle.rules.specs.Plain.{swallows, casesVowel, casesRest}
-use Rattle.rules.specs.CasesC.{casesC}
-use Rattle.rules.specs.CasesDL.{casesD, casesH, casesJ, casesL}
-use Rattle.rules.specs.CasesG.{casesG}
-use Rattle.rules.specs.CasesMZ.{casesM, casesP, casesR, casesT, casesW, casesX, casesZ}
-use Rattle.rules.specs.CasesS.{casesS}
+use Rattle.rules.specs.Plain.{swallows, cases_vowel, cases_rest}
+use Rattle.rules.specs.CasesC.{cases_c}
+use Rattle.rules.specs.CasesDL.{cases_d, cases_h, cases_j, cases_l}
+use Rattle.rules.specs.CasesG.{cases_g}
+use Rattle.rules.specs.CasesMZ.{cases_m, cases_p, cases_r, cases_t, cases_w, cases_x, cases_z}
+use Rattle.rules.specs.CasesS.{cases_s}
 use Rattle.rules.specs.Table.{Letter, table, cases_in, visit}
 use Rattle.outcome.specs.declared.Visit.{Visit}
 
@@ -109,9 +109,9 @@ defined s = visit (upper (bytes s.word)) s.place (marked s.mark)
 unfoldable pub answered : Seen → Visit
 answered s = adds s.primary s.alternate s.over
 
-pub as-the-rust : map defined examples ≡ map answered examples
-unfolding defined answered examples visit first holds table cases_in swallows casesC casesD casesG casesH casesJ casesL casesM casesP casesR casesS casesT casesW casesX casesZ casesVowel casesRest up upper is_at sees byte_at vowel vowelAt endsAfter isLong same
-as-the-rust = refl
+pub as_the_rust : map defined examples ≡ map answered examples
+unfolding defined answered examples visit first holds table cases_in swallows cases_c cases_d cases_g cases_h cases_j cases_l cases_m cases_p cases_r cases_s cases_t cases_w cases_x cases_z cases_vowel cases_rest up upper is_at sees byte_at vowel vowel_at ends_after is_long same
+as_the_rust = refl
 
 -- edition 2: Van and Von before CH, and what is not so before it
 unfoldable pub examples2 : List Seen
@@ -126,9 +126,9 @@ examples2 =
 unfoldable pub defined2 : Seen → Visit
 defined2 s = visit (upper (bytes s.word)) s.place (edited true)
 
-pub as-edition-2 : map defined2 examples2 ≡ map answered examples2
-unfolding defined2 answered examples2 visit first holds table cases_in swallows casesC casesVowel casesRest up upper is_at sees byte_at vowel vowelAt endsAfter isLong same
-as-edition-2 = refl
+pub as_edition_2 : map defined2 examples2 ≡ map answered examples2
+unfolding defined2 answered examples2 visit first holds table cases_in swallows cases_c cases_vowel cases_rest up upper is_at sees byte_at vowel vowel_at ends_after is_long same
+as_edition_2 = refl
 
 -- ---- the cases of the rest, of the vowels, of B, C, D, .. Z
 unfoldable pub sum : List ℕ → ℕ
@@ -136,12 +136,12 @@ sum [] = 0
 sum (n ∷ ns) = n + sum ns
 
 unfoldable pub counts : List ℕ
-counts = length casesRest ∷ map (λ (r : Letter). length r.cases) table
+counts = length cases_rest ∷ map (λ (r : Letter). length r.cases) table
 
 pub counted : counts ≡ 1 ∷ 2 ∷ 2 ∷ 18 ∷ 4 ∷ 2 ∷ 17 ∷ 2 ∷ 12 ∷ 2 ∷ 3 ∷ 2 ∷ 2 ∷ 3 ∷ 2 ∷ 4 ∷ 18 ∷ 5 ∷ 2 ∷ 6 ∷ 5 ∷ 5 ∷ []
-unfolding counts table swallows casesC casesD casesG casesH casesJ casesL casesM casesP casesR casesS casesT casesW casesX casesZ casesVowel casesRest
+unfolding counts table swallows cases_c cases_d cases_g cases_h cases_j cases_l cases_m cases_p cases_r cases_s cases_t cases_w cases_x cases_z cases_vowel cases_rest
 counted = refl
 
-pub counted-all : sum counts ≡ 119
-unfolding sum counts table swallows casesC casesD casesG casesH casesJ casesL casesM casesP casesR casesS casesT casesW casesX casesZ casesVowel casesRest
-counted-all = refl
+pub counted_all : sum counts ≡ 119
+unfolding sum counts table swallows cases_c cases_d cases_g cases_h cases_j cases_l cases_m cases_p cases_r cases_s cases_t cases_w cases_x cases_z cases_vowel cases_rest
+counted_all = refl

@@ -16,21 +16,21 @@ use Rattle.basics.proofs.Every.{every}
 use Rattle.byte.specs.Text.{bytes}
 use Rattle.basics.specs.Same.{same}
 use Rattle.windows.specs.Window.{is_at, sees}
-use Rattle.spots.specs.Spot.{byte_at, vowelAt}
+use Rattle.spots.specs.Spot.{byte_at, vowel_at}
 use Rattle.basics.proofs.Tests.{both, either}
 use Rattle.basics.proofs.Same.{same_true}
-use Rattle.windows.proofs.Facts.{isAt-true}
+use Rattle.windows.proofs.Facts.{is_at_true}
 use Rattle.rules.specs.Cond.{Spot, ahead, back, front, rear, Cond, Mode, always, window, byte, vowel, place, past, below, left, long, slavo, edition2, non, ◌&◌, ◌or◌, at, holds}
 use Rattle.rules.specs.Case.{Case, added, gives, first}
-use Rattle.rules.specs.Plain.{swallows, casesVowel, casesRest}
-use Rattle.rules.specs.CasesC.{casesC}
-use Rattle.rules.specs.CasesDL.{casesD, casesH, casesJ, casesL}
-use Rattle.rules.specs.CasesG.{casesG}
-use Rattle.rules.specs.CasesMZ.{casesM, casesP, casesR, casesT, casesW, casesX, casesZ}
-use Rattle.rules.specs.CasesS.{casesS}
+use Rattle.rules.specs.Plain.{swallows, cases_vowel, cases_rest}
+use Rattle.rules.specs.CasesC.{cases_c}
+use Rattle.rules.specs.CasesDL.{cases_d, cases_h, cases_j, cases_l}
+use Rattle.rules.specs.CasesG.{cases_g}
+use Rattle.rules.specs.CasesMZ.{cases_m, cases_p, cases_r, cases_t, cases_w, cases_x, cases_z}
+use Rattle.rules.specs.CasesS.{cases_s}
 use Rattle.rules.specs.Table.{table, cases_in, visit}
 use Rattle.rules.specs.Kept.{bytes_of, AtFront}
-use Rattle.rules.proofs.Each.{letter-passes}
+use Rattle.rules.proofs.Each.{letter_passes}
 
 -- ---- what a condition surely answers at place 0
 abbrev before : Spot → Bool
@@ -64,46 +64,46 @@ surely false (c & d) = surely false c || surely false d
 surely true (c or d) = surely true c || surely true d
 surely false (c or d) = surely false c && surely false d
 
-before-none : (s : Spot) → before s ≡ true → (u : List ℕ) (f : ℕ → Bool) → at s u 0 f ≡ false
-before-none (ahead k) e u f = absurd (false≢true e)
-before-none (back k) e u f = simp (lt-leb k 0 (ltb-true 0 k e))
-before-none (front k) e u f = absurd (false≢true e)
-before-none (rear k) e u f = absurd (false≢true e)
+before_none : (s : Spot) → before s ≡ true → (u : List ℕ) (f : ℕ → Bool) → at s u 0 f ≡ false
+before_none (ahead k) e u f = absurd (false≢true e)
+before_none (back k) e u f = simp (lt-leb k 0 (ltb-true 0 k e))
+before_none (front k) e u f = absurd (false≢true e)
+before_none (rear k) e u f = absurd (false≢true e)
 
-not-not : (b c : Bool) → c ≡ not b → not c ≡ b
-not-not true c e = ap not e
-not-not false c e = ap not e
+not_not : (b c : Bool) → c ≡ not b → not c ≡ b
+not_not true c e = ap not e
+not_not false c e = ap not e
 
 module _ (u : List ℕ) (m : Mode) where
-  settled-holds : (b : Bool) (c : Cond) → surely b c ≡ true → holds c u 0 m ≡ b
+  settled_holds : (b : Bool) (c : Cond) → surely b c ≡ true → holds c u 0 m ≡ b
   unfolding holds
-  settled-holds true always e = refl
-  settled-holds false always e = absurd (false≢true e)
-  settled-holds true (window s n ts) e = absurd (false≢true e)
-  settled-holds false (window s n ts) e = before-none s e u _
-  settled-holds true (byte s b) e = absurd (false≢true e)
-  settled-holds false (byte s b) e = before-none s e u _
-  settled-holds true (vowel s) e = absurd (false≢true e)
-  settled-holds false (vowel s) e = before-none s e u _
-  settled-holds true (place k) e = eq-eqb 0 k (sym (eqb-true k 0 e))
-  settled-holds false (place k) e = ne_eqb 0 k (λ q. omega (arith, ltb-true 0 k e))
-  settled-holds true (past k) e = absurd (false≢true e)
-  settled-holds false (past k) e = le-ltb k 0 (omega arith)
-  settled-holds true (below k) e = e
-  settled-holds false (below k) e = absurd (false≢true e)
-  settled-holds b (left k) e = absurd (false≢true e)
-  settled-holds b (long n) e = absurd (false≢true e)
-  settled-holds b slavo e = absurd (false≢true e)
-  settled-holds b edition2 e = absurd (false≢true e)
-  settled-holds b (non c) e = not-not b (holds c u 0 m) (settled-holds (not b) c e)
-  settled-holds true (c & d) e =
-      let h = both (surely true c) (surely true d) e in simp (settled-holds true c h.0, settled-holds true d h.1)
-  settled-holds false (c & d) e =
-      either (surely false c) (surely false d) e _ (λ f. simp (settled-holds false c f)) (λ f. simp (settled-holds false d f, and-false))
-  settled-holds true (c or d) e =
-      either (surely true c) (surely true d) e _ (λ f. simp (settled-holds true c f)) (λ f. simp (settled-holds true d f, or-true))
-  settled-holds false (c or d) e =
-      let h = both (surely false c) (surely false d) e in simp (settled-holds false c h.0, settled-holds false d h.1)
+  settled_holds true always e = refl
+  settled_holds false always e = absurd (false≢true e)
+  settled_holds true (window s n ts) e = absurd (false≢true e)
+  settled_holds false (window s n ts) e = before_none s e u _
+  settled_holds true (byte s b) e = absurd (false≢true e)
+  settled_holds false (byte s b) e = before_none s e u _
+  settled_holds true (vowel s) e = absurd (false≢true e)
+  settled_holds false (vowel s) e = before_none s e u _
+  settled_holds true (place k) e = eq-eqb 0 k (sym (eqb-true k 0 e))
+  settled_holds false (place k) e = ne_eqb 0 k (λ q. omega (arith, ltb-true 0 k e))
+  settled_holds true (past k) e = absurd (false≢true e)
+  settled_holds false (past k) e = le-ltb k 0 (omega arith)
+  settled_holds true (below k) e = e
+  settled_holds false (below k) e = absurd (false≢true e)
+  settled_holds b (left k) e = absurd (false≢true e)
+  settled_holds b (long n) e = absurd (false≢true e)
+  settled_holds b slavo e = absurd (false≢true e)
+  settled_holds b edition2 e = absurd (false≢true e)
+  settled_holds b (non c) e = not_not b (holds c u 0 m) (settled_holds (not b) c e)
+  settled_holds true (c & d) e =
+      let h = both (surely true c) (surely true d) e in simp (settled_holds true c h.0, settled_holds true d h.1)
+  settled_holds false (c & d) e =
+      either (surely false c) (surely false d) e _ (λ f. simp (settled_holds false c f)) (λ f. simp (settled_holds false d f, and-false))
+  settled_holds true (c or d) e =
+      either (surely true c) (surely true d) e _ (λ f. simp (settled_holds true c f)) (λ f. simp (settled_holds true d f, or-true))
+  settled_holds false (c or d) e =
+      let h = both (surely false c) (surely false d) e in simp (settled_holds false c h.0, settled_holds false d h.1)
 
 -- ---- how long a word must be for a condition to hold at place 0
 abbrev reach : Spot → ℕ → ℕ
@@ -136,38 +136,38 @@ module _ (u : List ℕ) where
   reached (front k) n f h e = h k e
   reached (rear k) n f h e = omega arith
 
-  sees-inside : (n : ℕ) (ts : List (List ℕ)) (q : ℕ) → sees u q n ts ≡ true → q + n ≤ length u
+  sees_inside : (n : ℕ) (ts : List (List ℕ)) (q : ℕ) → sees u q n ts ≡ true → q + n ≤ length u
   unfolding sees
-  sees-inside n [] q e = absurd (false≢true e)
-  sees-inside n (t ∷ ts) q e = either (is_at u q n t) (sees u q n ts) e _ (λ f. (isAt-true u q n t f).0) (λ f. sees-inside n ts q f)
+  sees_inside n [] q e = absurd (false≢true e)
+  sees_inside n (t ∷ ts) q e = either (is_at u q n t) (sees u q n ts) e _ (λ f. (is_at_true u q n t f).0) (λ f. sees_inside n ts q f)
 
   byte_inside : (b q : ℕ) → byte_at u q b ≡ true → q + 1 ≤ length u
   unfolding byte_at
   byte_inside b q e = omega (arith, ltb-true q (length u) (both (ltb q (length u)) _ e).0)
 
-  vowel-inside : (q : ℕ) → vowelAt u q ≡ true → q + 1 ≤ length u
-  unfolding vowelAt
-  vowel-inside q e = omega (arith, ltb-true q (length u) (both (ltb q (length u)) _ e).0)
+  vowel_inside : (q : ℕ) → vowel_at u q ≡ true → q + 1 ≤ length u
+  unfolding vowel_at
+  vowel_inside q e = omega (arith, ltb-true q (length u) (both (ltb q (length u)) _ e).0)
 
 module _ (u : List ℕ) (m : Mode) where
-  least-long : (c : Cond) → holds c u 0 m ≡ true → least c ≤ length u
+  least_long : (c : Cond) → holds c u 0 m ≡ true → least c ≤ length u
   unfolding holds
-  least-long always e = omega arith
-  least-long (window s n ts) e = reached u s n _ (λ q f. sees-inside u n (map bytes ts) q f) e
-  least-long (byte s b) e = reached u s 1 _ (λ q f. byte_inside u (code b) q f) e
-  least-long (vowel s) e = reached u s 1 _ (λ q f. vowel-inside u q f) e
-  least-long (place k) e = omega arith
-  least-long (past k) e = omega arith
-  least-long (below k) e = omega arith
-  least-long (left k) e = omega arith
-  least-long (long n) e = omega arith
-  least-long slavo e = omega arith
-  least-long edition2 e = omega arith
-  least-long (non c) e = omega arith
-  least-long (c & d) e =
-      let h = both (holds c u 0 m) (holds d u 0 m) e in omega (arith, least-long c h.0, least-long d h.1)
-  least-long (c or d) e =
-      either (holds c u 0 m) (holds d u 0 m) e _ (λ f. omega (arith, least-long c f)) (λ f. omega (arith, least-long d f))
+  least_long always e = omega arith
+  least_long (window s n ts) e = reached u s n _ (λ q f. sees_inside u n (map bytes ts) q f) e
+  least_long (byte s b) e = reached u s 1 _ (λ q f. byte_inside u (code b) q f) e
+  least_long (vowel s) e = reached u s 1 _ (λ q f. vowel_inside u q f) e
+  least_long (place k) e = omega arith
+  least_long (past k) e = omega arith
+  least_long (below k) e = omega arith
+  least_long (left k) e = omega arith
+  least_long (long n) e = omega arith
+  least_long slavo e = omega arith
+  least_long edition2 e = omega arith
+  least_long (non c) e = omega arith
+  least_long (c & d) e =
+      let h = both (holds c u 0 m) (holds d u 0 m) e in omega (arith, least_long c h.0, least_long d h.1)
+  least_long (c or d) e =
+      either (holds c u 0 m) (holds d u 0 m) e _ (λ f. omega (arith, least_long c f)) (λ f. omega (arith, least_long d f))
 
 -- ---- a condition that holds at place 0 only where another does
 -- where the condition holds, a window at `k` is a text that passes, its width with it
@@ -228,27 +228,27 @@ pub record Shown (u : List ℕ) (k : ℕ) (f : ℕ → List ℕ → Bool) : Type
   pub passes : f width text ≡ true
 
 module _ (u : List ℕ) (k : ℕ) (f : ℕ → List ℕ → Bool) where
-  shown-text : (n : ℕ) (ts : List (List ℕ)) → every (f n) ts ≡ true → sees u k n ts ≡ true → Shown u k f
+  shown_text : (n : ℕ) (ts : List (List ℕ)) → every (f n) ts ≡ true → sees u k n ts ≡ true → Shown u k f
   unfolding sees
-  shown-text n [] a e = absurd (false≢true e)
-  shown-text n (t ∷ ts) a e =
+  shown_text n [] a e = absurd (false≢true e)
+  shown_text n (t ∷ ts) a e =
       let h = both (f n t) (every (f n) ts) a in
       either (is_at u k n t) (sees u k n ts) e _
       (λ i. record { width = n; text = t; there = i; passes = h.0 })
-      (λ i. shown-text n ts h.1 i)
+      (λ i. shown_text n ts h.1 i)
 
   module _ (m : Mode) where
-    shown-or : (c : Cond) → (shows c k f ≡ true → holds c u 0 m ≡ true → Shown u k f)
+    shown_or : (c : Cond) → (shows c k f ≡ true → holds c u 0 m ≡ true → Shown u k f)
         → (surely false c || shows c k f) ≡ true → holds c u 0 m ≡ true → Shown u k f
-    shown-or c ih a e =
-        either (surely false c) (shows c k f) a _ (λ n. absurd (false≢true (sym (settled-holds u m false c n) ∙ e))) (λ s. ih s e)
+    shown_or c ih a e =
+        either (surely false c) (shows c k f) a _ (λ n. absurd (false≢true (sym (settled_holds u m false c n) ∙ e))) (λ s. ih s e)
 
     shown : (c : Cond) → shows c k f ≡ true → holds c u 0 m ≡ true → Shown u k f
     unfolding holds
     shown always a e = absurd (false≢true a)
     shown (window (ahead j) n ts) a e =
         let h = both (eqb j k) (every (f n) (map bytes ts)) a in
-        shown-text n (map bytes ts) h.1 (rw (zero-add, eqb-true j k h.0) at e)
+        shown_text n (map bytes ts) h.1 (rw (zero-add, eqb-true j k h.0) at e)
     shown (window (back j) n ts) a e = absurd (false≢true a)
     shown (window (front j) n ts) a e = absurd (false≢true a)
     shown (window (rear j) n ts) a e = absurd (false≢true a)
@@ -268,28 +268,28 @@ module _ (u : List ℕ) (k : ℕ) (f : ℕ → List ℕ → Bool) where
     shown (c or d) a e =
         let h = both (surely false c || shows c k f) (surely false d || shows d k f) a in
         either (holds c u 0 m) (holds d u 0 m) e _
-        (λ i. shown-or c (shown c) h.0 i)
-        (λ i. shown-or d (shown d) h.1 i)
+        (λ i. shown_or c (shown c) h.0 i)
+        (λ i. shown_or d (shown d) h.1 i)
 
-oneOf-sees : (u : List ℕ) (k n : ℕ) (t : List ℕ) → is_at u k n t ≡ true → (ts : List (List ℕ)) → one_of ts t ≡ true → sees u k n ts ≡ true
+one_of_sees : (u : List ℕ) (k n : ℕ) (t : List ℕ) → is_at u k n t ≡ true → (ts : List (List ℕ)) → one_of ts t ≡ true → sees u k n ts ≡ true
 unfolding sees
-oneOf-sees u k n t i [] e = absurd (false≢true e)
-oneOf-sees u k n t i (s ∷ ts) e =
+one_of_sees u k n t i [] e = absurd (false≢true e)
+one_of_sees u k n t i (s ∷ ts) e =
     either (same t s) (one_of ts t) e _
     (λ h. simp (ap (is_at u k n) (sym (same_true t s h)) ∙ i))
-    (λ h. simp (oneOf-sees u k n t i ts h, or-true))
+    (λ h. simp (one_of_sees u k n t i ts h, or-true))
 
-shown-sees : (u : List ℕ) (k n : ℕ) (ts : List (List ℕ)) → Shown u k (λ (l : ℕ) (t : List ℕ). eqb l n && one_of ts t) → sees u k n ts ≡ true
-shown-sees u k n ts s =
+shown_sees : (u : List ℕ) (k n : ℕ) (ts : List (List ℕ)) → Shown u k (λ (l : ℕ) (t : List ℕ). eqb l n && one_of ts t) → sees u k n ts ≡ true
+shown_sees u k n ts s =
     let h = both (eqb s.width n) (one_of ts s.text) s.passes in
-    oneOf-sees u k n s.text (rw (eqb-true s.width n h.0) at s.there) ts h.1
+    one_of_sees u k n s.text (rw (eqb-true s.width n h.0) at s.there) ts h.1
 
-begins-byte : (u : List ℕ) (k b n : ℕ) (t : List ℕ) → is_at u k n t ≡ true → begins b t ≡ true → byte_at u k b ≡ true
+begins_byte : (u : List ℕ) (k b n : ℕ) (t : List ℕ) → is_at u k n t ≡ true → begins b t ≡ true → byte_at u k b ≡ true
 unfolding byte_at
-begins-byte u k b n [] i e = absurd (false≢true e)
-begins-byte u k b zero (x ∷ t) i e = absurd (let z : ◌≡◌ {A = ℕ} 0 1 = cc (isAt-true u k 0 (x ∷ t) i).1 in omega arith)
-begins-byte u k b (suc n) (x ∷ t) i e =
-    let h = isAt-true u k (suc n) (x ∷ t) i in
+begins_byte u k b n [] i e = absurd (false≢true e)
+begins_byte u k b zero (x ∷ t) i e = absurd (let z : ◌≡◌ {A = ℕ} 0 1 = cc (is_at_true u k 0 (x ∷ t) i).1 in omega arith)
+begins_byte u k b (suc n) (x ∷ t) i e =
+    let h = is_at_true u k (suc n) (x ∷ t) i in
     let g : get_or u (k + 0) 0 ≡ x = sym (get_or-drop k u 0 0) ∙ sym (get_or-take (suc n) (drop k u) 0 0 (omega arith)) ∙ ap (λ (l : List ℕ). get_or l 0 0) h.1 in
     let y : get_or u k 0 ≡ b = rw add-zero at (g ∙ eqb-true x b e) in
     simp (lt-ltb k (length u) (omega (arith, h.0)), eq-eqb (get_or u k 0) b y)
@@ -298,13 +298,13 @@ module _ (u : List ℕ) (m : Mode) (c : Cond) (e : holds c u 0 m ≡ true) where
   forced : (d : Cond) → forces c d ≡ true → holds d u 0 m ≡ true
   unfolding holds
   forced always a = refl
-  forced (window (ahead k) n ts) a = rw zero-add (shown-sees u k n (map bytes ts) (shown u k _ m c a e))
+  forced (window (ahead k) n ts) a = rw zero-add (shown_sees u k n (map bytes ts) (shown u k _ m c a e))
   forced (window (back k) n ts) a = absurd (false≢true a)
   forced (window (front k) n ts) a = absurd (false≢true a)
   forced (window (rear k) n ts) a = absurd (false≢true a)
   forced (byte (ahead k) b) a =
       let s = shown u k (λ (l : ℕ) (t : List ℕ). begins (code b) t) m c a e in
-      rw zero-add (begins-byte u k (code b) s.width s.text s.there s.passes)
+      rw zero-add (begins_byte u k (code b) s.width s.text s.there s.passes)
   forced (byte (back k) b) a = absurd (false≢true a)
   forced (byte (front k) b) a = absurd (false≢true a)
   forced (byte (rear k) b) a = absurd (false≢true a)
@@ -323,9 +323,9 @@ module _ (u : List ℕ) (m : Mode) (c : Cond) (e : holds c u 0 m ≡ true) where
       either (forces c d) (forces c g) a _ (λ f. simp (forced d f)) (λ f. simp (forced g f, or-true))
 
 -- ---- the test of a list of cases, with the conditions of the cases before it
-abbrev anyForced : Cond → List Cond → Bool
-anyForced c [] = false
-anyForced c (d ∷ ds) = forces c d || anyForced c ds
+abbrev any_forced : Cond → List Cond → Bool
+any_forced c [] = false
+any_forced c (d ∷ ds) = forces c d || any_forced c ds
 
 abbrev fits : Case → Bool
 fits c =
@@ -335,7 +335,7 @@ fits c =
 abbrev opens : List Cond → List Case → Bool
 opens ds [] = true
 opens ds (c ∷ cs) =
-    (surely false c.when || (anyForced c.when ds || fits c))
+    (surely false c.when || (any_forced c.when ds || fits c))
     && (surely true c.when || opens (c.when ∷ ds) cs)
 
 -- none of the conditions holds at place 0
@@ -351,42 +351,42 @@ longer : (n k l t : ℕ) → n ≤ 1 + min k (l - 1) → l ≤ t → n ≤ 1 + m
 longer n k l t h j = omega arith
 
 module _ (u : List ℕ) (m : Mode) where
-  none-forced : (c : Cond) (ds : List Cond) → Fail u m ds → anyForced c ds ≡ true → holds c u 0 m ≡ true → ⊥
-  none-forced c [] n a e = false≢true a
-  none-forced c (d ∷ ds) n a e =
-      either (forces c d) (anyForced c ds) a _
+  none_forced : (c : Cond) (ds : List Cond) → Fail u m ds → any_forced c ds ≡ true → holds c u 0 m ≡ true → ⊥
+  none_forced c [] n a e = false≢true a
+  none_forced c (d ∷ ds) n a e =
+      either (forces c d) (any_forced c ds) a _
       (λ f. false≢true (sym n.0 ∙ forced u m c e d f))
-      (λ f. none-forced c ds n.1 f e)
+      (λ f. none_forced c ds n.1 f e)
 
-  fits-front : (c : Case) → fits c ≡ true → holds c.when u 0 m ≡ true → AtFront (length u) (gives c)
-  fits-front c a e =
+  fits_front : (c : Case) → fits c ≡ true → holds c.when u 0 m ≡ true → AtFront (length u) (gives c)
+  fits_front c a e =
       let h = both (leb (length (bytes_of (added (bytes c.primary)))) (1 + min c.over (least c.when - 1))) _ a in
-      let l = least-long u m c.when e in
+      let l = least_long u m c.when e in
       record { primary = longer _ c.over _ _ (leb-true _ _ h.0) l; alternate = longer _ c.over _ _ (leb-true _ _ h.1) l }
 
-  first-front : (ds : List Cond) (cs : List Case) → Fail u m ds → opens ds cs ≡ true → AtFront (length u) (first cs u 0 m)
+  first_front : (ds : List Cond) (cs : List Case) → Fail u m ds → opens ds cs ≡ true → AtFront (length u) (first cs u 0 m)
   unfolding first
-  first-front ds [] n a = record { primary = omega arith; alternate = omega arith }
-  first-front ds (c ∷ cs) n a =
-      let h = both (surely false c.when || (anyForced c.when ds || fits c)) _ a in
+  first_front ds [] n a = record { primary = omega arith; alternate = omega arith }
+  first_front ds (c ∷ cs) n a =
+      let h = both (surely false c.when || (any_forced c.when ds || fits c)) _ a in
       chosen (AtFront (length u)) (holds c.when u 0 m)
       (λ e.
       either (surely false c.when) _ h.0 _
-      (λ f. absurd (false≢true (sym (settled-holds u m false c.when f) ∙ e)))
+      (λ f. absurd (false≢true (sym (settled_holds u m false c.when f) ∙ e)))
       (λ g.
-      either (anyForced c.when ds) (fits c) g _
-      (λ f. absurd (none-forced c.when ds n f e))
-      (λ f. fits-front c f e)))
+      either (any_forced c.when ds) (fits c) g _
+      (λ f. absurd (none_forced c.when ds n f e))
+      (λ f. fits_front c f e)))
       (λ e.
       either (surely true c.when) _ h.1 _
-      (λ f. absurd (false≢true (sym e ∙ settled-holds u m true c.when f)))
-      (λ g. first-front (c.when ∷ ds) cs (e, n) g))
+      (λ f. absurd (false≢true (sym e ∙ settled_holds u m true c.when f)))
+      (λ g. first_front (c.when ∷ ds) cs (e, n) g))
 
 -- the table passes the test
-table-opens : (b : ℕ) → opens [] (cases_in table b) ≡ true
-unfolding table swallows casesC casesD casesG casesH casesJ casesL casesM casesP casesR casesS casesT casesW casesX casesZ casesVowel casesRest same
-table-opens b = letter-passes (opens []) table b refl
+table_opens : (b : ℕ) → opens [] (cases_in table b) ≡ true
+unfolding table swallows cases_c cases_d cases_g cases_h cases_j cases_l cases_m cases_p cases_r cases_s cases_t cases_w cases_x cases_z cases_vowel cases_rest same
+table_opens b = letter_passes (opens []) table b refl
 
-pub visit-front : (u : List ℕ) (m : Mode) → AtFront (length u) (visit u 0 m)
+pub visit_front : (u : List ℕ) (m : Mode) → AtFront (length u) (visit u 0 m)
 unfolding visit
-visit-front u m = first-front u m [] (cases_in table (get_or u 0 0)) tt (table-opens (get_or u 0 0))
+visit_front u m = first_front u m [] (cases_in table (get_or u 0 0)) tt (table_opens (get_or u 0 0))

@@ -13,22 +13,22 @@ use lib.Seq.{ext_get_or, get_or-take, get_or-drop}
 use Rattle.byte.specs.Text.{bytes}
 use Rattle.basics.specs.Same.{same}
 use Rattle.windows.specs.Window.{is_at, sees}
-use Rattle.spots.specs.Spot.{byte_at, vowelAt, endsAfter, isLong}
+use Rattle.spots.specs.Spot.{byte_at, vowel_at, ends_after, is_long}
 use Rattle.byte.specs.Vowel.{vowel}
 use Rattle.basics.proofs.Tests.{both, either}
 use Rattle.rules.specs.Agree.{Agree}
 use Rattle.rules.specs.Cond.{Spot, ahead, back, front, rear, Cond, Mode, always, window, byte, vowel as vowelThere, place, past, below, left, long, slavo, edition2, non, ◌&◌, ◌or◌, at, holds}
 use Rattle.rules.specs.Case.{Case, gives, first}
-use Rattle.rules.specs.Plain.{swallows, casesVowel, casesRest}
-use Rattle.rules.specs.CasesC.{casesC}
-use Rattle.rules.specs.CasesDL.{casesD, casesH, casesJ, casesL}
-use Rattle.rules.specs.CasesG.{casesG}
-use Rattle.rules.specs.CasesMZ.{casesM, casesP, casesR, casesT, casesW, casesX, casesZ}
-use Rattle.rules.specs.CasesS.{casesS}
+use Rattle.rules.specs.Plain.{swallows, cases_vowel, cases_rest}
+use Rattle.rules.specs.CasesC.{cases_c}
+use Rattle.rules.specs.CasesDL.{cases_d, cases_h, cases_j, cases_l}
+use Rattle.rules.specs.CasesG.{cases_g}
+use Rattle.rules.specs.CasesMZ.{cases_m, cases_p, cases_r, cases_t, cases_w, cases_x, cases_z}
+use Rattle.rules.specs.CasesS.{cases_s}
 use Rattle.rules.specs.Table.{table, cases_in, visit}
 use Rattle.outcome.specs.declared.Visit.{Visit}
 use Rattle.basics.proofs.Every.{every}
-use Rattle.rules.proofs.Each.{letter-passes}
+use Rattle.rules.proofs.Each.{letter_passes}
 
 -- ---- the test
 -- `n` bytes at the spot lie where the two words agree
@@ -85,8 +85,8 @@ near (non c) = near c
 near (c & d) = zero? c || near c && near d
 near (c or d) = near c && near d
 
-abbrev nearCase : Case → Bool
-nearCase c = near c.when
+abbrev near_case : Case → Bool
+near_case c = near c.when
 
 -- ---- the laws
 and_same : (b x y : Bool) → (b ≡ true → x ≡ y) → (b && x) ≡ (b && y)
@@ -98,9 +98,9 @@ abbrev Common : List ℕ → List ℕ → ℕ → ℕ → Type 0
 Common u v q n = (i : ℕ) → q ≤ i → i < q + n → get_or u i 0 ≡ get_or v i 0
 
 module _ (u v : List ℕ) (l : length u ≡ length v) where
-  isAt-same : (q n : ℕ) → Common u v q n → (t : List ℕ) → is_at u q n t ≡ is_at v q n t
+  is_at_same : (q n : ℕ) → Common u v q n → (t : List ℕ) → is_at u q n t ≡ is_at v q n t
   unfolding is_at
-  isAt-same q n h t =
+  is_at_same q n h t =
       let lu : length (take n (drop q u)) ≡ length (take n (drop q v)) = simp (length-take, length-drop, l) in
       ap₂ (λ (k : ℕ) (s : List ℕ). leb (q + n) k && same s t) l
       (ext_get_or 0 (take n (drop q u)) (take n (drop q v)) lu
@@ -109,25 +109,25 @@ module _ (u v : List ℕ) (l : length u ≡ length v) where
       get_or-take n (drop q u) i 0 c ∙ get_or-drop q u i 0 ∙ h (q + i) (omega arith) (omega arith)
       ∙ sym (get_or-drop q v i 0) ∙ sym (get_or-take n (drop q v) i 0 c)))
 
-  sees-same : (n : ℕ) (ts : List (List ℕ)) (q : ℕ) → Common u v q n → sees u q n ts ≡ sees v q n ts
+  sees_same : (n : ℕ) (ts : List (List ℕ)) (q : ℕ) → Common u v q n → sees u q n ts ≡ sees v q n ts
   unfolding sees
-  sees-same n [] q h = refl
-  sees-same n (t ∷ ts) q h = ap₂ ◌||◌ (isAt-same q n h t) (sees-same n ts q h)
+  sees_same n [] q h = refl
+  sees_same n (t ∷ ts) q h = ap₂ ◌||◌ (is_at_same q n h t) (sees_same n ts q h)
 
-  byte-same : (b q : ℕ) → Common u v q 1 → byte_at u q b ≡ byte_at v q b
+  byte_same : (b q : ℕ) → Common u v q 1 → byte_at u q b ≡ byte_at v q b
   unfolding byte_at
-  byte-same b q h = ap₂ (λ (k a : ℕ). ltb q k && eqb a b) l (h q (omega arith) (omega arith))
+  byte_same b q h = ap₂ (λ (k a : ℕ). ltb q k && eqb a b) l (h q (omega arith) (omega arith))
 
-  vowel-same : (q : ℕ) → Common u v q 1 → vowelAt u q ≡ vowelAt v q
-  unfolding vowelAt
-  vowel-same q h = ap₂ (λ (k a : ℕ). ltb q k && vowel a) l (h q (omega arith) (omega arith))
+  vowel_same : (q : ℕ) → Common u v q 1 → vowel_at u q ≡ vowel_at v q
+  unfolding vowel_at
+  vowel_same q h = ap₂ (λ (k a : ℕ). ltb q k && vowel a) l (h q (omega arith) (omega arith))
 
-  left-same : (p k : ℕ) → endsAfter u p k ≡ endsAfter v p k
-  unfolding endsAfter
-  left-same p k = ap (eqb (p + k + 1)) l
+  left_same : (p k : ℕ) → ends_after u p k ≡ ends_after v p k
+  unfolding ends_after
+  left_same p k = ap (eqb (p + k + 1)) l
 
-  long_same : (n : ℕ) → isLong u n ≡ isLong v n
-  unfolding isLong
+  long_same : (n : ℕ) → is_long u n ≡ is_long v n
+  unfolding is_long
   long_same n = ap (λ (k : ℕ). eqb k n) l
 
 module _ (u v : List ℕ) (p : ℕ) (a : Agree u v p) where
@@ -147,75 +147,75 @@ module _ (u v : List ℕ) (p : ℕ) (a : Agree u v p) where
       rw (← a.long) (and_same (leb k (length u)) _ _ (λ t. h (length u - k) (λ i x y. a.end i (omega arith))))
 
 module _ (u v : List ℕ) (p : ℕ) (a : Agree u v p) (h : 0 < p) (m : Mode) where
-  zero-no : (c : Cond) → zero? c ≡ true → (x : List ℕ) → holds c x p m ≡ false
+  zero_no : (c : Cond) → zero? c ≡ true → (x : List ℕ) → holds c x p m ≡ false
   unfolding holds
-  zero-no always e x = absurd (false≢true e)
-  zero-no (window s n ts) e x = absurd (false≢true e)
-  zero-no (byte s b) e x = absurd (false≢true e)
-  zero-no (vowelThere s) e x = absurd (false≢true e)
-  zero-no (place k) e x = ne_eqb p k (λ q. omega (arith, eqb-true k 0 e))
-  zero-no (past k) e x = absurd (false≢true e)
-  zero-no (below k) e x = absurd (false≢true e)
-  zero-no (left k) e x = absurd (false≢true e)
-  zero-no (long n) e x = absurd (false≢true e)
-  zero-no slavo e x = absurd (false≢true e)
-  zero-no edition2 e x = absurd (false≢true e)
-  zero-no (non always) e x = absurd (false≢true e)
-  zero-no (non (window s n ts)) e x = absurd (false≢true e)
-  zero-no (non (byte s b)) e x = absurd (false≢true e)
-  zero-no (non (vowelThere s)) e x = absurd (false≢true e)
-  zero-no (non (place k)) e x = absurd (false≢true e)
-  zero-no (non (past k)) e x = absurd (false≢true e)
-  zero-no (non (below k)) e x = absurd (false≢true e)
-  zero-no (non (left k)) e x = absurd (false≢true e)
-  zero-no (non (long n)) e x = absurd (false≢true e)
-  zero-no (non slavo) e x = absurd (false≢true e)
-  zero-no (non edition2) e x = absurd (false≢true e)
-  zero-no (non (non c)) e x = simp (zero-no c e x)
-  zero-no (non (c & d)) e x = absurd (false≢true e)
-  zero-no (non (c or d)) e x = absurd (false≢true e)
-  zero-no (c & d) e x =
-      either (zero? c) (zero? d) e _ (λ f. simp (zero-no c f x)) (λ f. simp (zero-no d f x, and-false))
-  zero-no (c or d) e x = absurd (false≢true e)
+  zero_no always e x = absurd (false≢true e)
+  zero_no (window s n ts) e x = absurd (false≢true e)
+  zero_no (byte s b) e x = absurd (false≢true e)
+  zero_no (vowelThere s) e x = absurd (false≢true e)
+  zero_no (place k) e x = ne_eqb p k (λ q. omega (arith, eqb-true k 0 e))
+  zero_no (past k) e x = absurd (false≢true e)
+  zero_no (below k) e x = absurd (false≢true e)
+  zero_no (left k) e x = absurd (false≢true e)
+  zero_no (long n) e x = absurd (false≢true e)
+  zero_no slavo e x = absurd (false≢true e)
+  zero_no edition2 e x = absurd (false≢true e)
+  zero_no (non always) e x = absurd (false≢true e)
+  zero_no (non (window s n ts)) e x = absurd (false≢true e)
+  zero_no (non (byte s b)) e x = absurd (false≢true e)
+  zero_no (non (vowelThere s)) e x = absurd (false≢true e)
+  zero_no (non (place k)) e x = absurd (false≢true e)
+  zero_no (non (past k)) e x = absurd (false≢true e)
+  zero_no (non (below k)) e x = absurd (false≢true e)
+  zero_no (non (left k)) e x = absurd (false≢true e)
+  zero_no (non (long n)) e x = absurd (false≢true e)
+  zero_no (non slavo) e x = absurd (false≢true e)
+  zero_no (non edition2) e x = absurd (false≢true e)
+  zero_no (non (non c)) e x = simp (zero_no c e x)
+  zero_no (non (c & d)) e x = absurd (false≢true e)
+  zero_no (non (c or d)) e x = absurd (false≢true e)
+  zero_no (c & d) e x =
+      either (zero? c) (zero? d) e _ (λ f. simp (zero_no c f x)) (λ f. simp (zero_no d f x, and-false))
+  zero_no (c or d) e x = absurd (false≢true e)
 
   -- a condition that passes the test says the same of both words
   holds_same : (c : Cond) → near c ≡ true → holds c u p m ≡ holds c v p m
   unfolding holds
   holds_same always e = refl
-  holds_same (window s n ts) e = at_same u v p a s n _ _ (sees-same u v a.long n (map bytes ts)) e
-  holds_same (byte s b) e = at_same u v p a s 1 _ _ (byte-same u v a.long (code b)) e
-  holds_same (vowelThere s) e = at_same u v p a s 1 _ _ (vowel-same u v a.long) e
+  holds_same (window s n ts) e = at_same u v p a s n _ _ (sees_same u v a.long n (map bytes ts)) e
+  holds_same (byte s b) e = at_same u v p a s 1 _ _ (byte_same u v a.long (code b)) e
+  holds_same (vowelThere s) e = at_same u v p a s 1 _ _ (vowel_same u v a.long) e
   holds_same (place k) e = refl
   holds_same (past k) e = refl
   holds_same (below k) e = refl
-  holds_same (left k) e = left-same u v a.long p k
+  holds_same (left k) e = left_same u v a.long p k
   holds_same (long n) e = long_same u v a.long n
   holds_same slavo e = refl
   holds_same edition2 e = refl
   holds_same (non c) e = ap not (holds_same c e)
   holds_same (c & d) e =
       either (zero? c) (near c && near d) e _
-      (λ f. simp (zero-no c f u, zero-no c f v))
+      (λ f. simp (zero_no c f u, zero_no c f v))
       (λ f. let b = both (near c) (near d) f in ap₂ ◌&&◌ (holds_same c b.0) (holds_same d b.1))
   holds_same (c or d) e =
       let b = both (near c) (near d) e in ap₂ ◌||◌ (holds_same c b.0) (holds_same d b.1)
 
   -- so does a list of cases, and so a visit
-  first-same : (cs : List Case) → every nearCase cs ≡ true → first cs u p m ≡ first cs v p m
+  first_same : (cs : List Case) → every near_case cs ≡ true → first cs u p m ≡ first cs v p m
   unfolding first
-  first-same [] e = refl
-  first-same (c ∷ cs) e =
-      let b = both (near c.when) (every nearCase cs) e in
-      ap₂ (λ (t : Bool) (r : Visit). cond t (gives c) r) (holds_same c.when b.0) (first-same cs b.1)
+  first_same [] e = refl
+  first_same (c ∷ cs) e =
+      let b = both (near c.when) (every near_case cs) e in
+      ap₂ (λ (t : Bool) (r : Visit). cond t (gives c) r) (holds_same c.when b.0) (first_same cs b.1)
 
 -- the table passes the test
-table-near : (b : ℕ) → every nearCase (cases_in table b) ≡ true
-unfolding table swallows casesC casesD casesG casesH casesJ casesL casesM casesP casesR casesS casesT casesW casesX casesZ casesVowel casesRest
-table-near b = letter-passes (every nearCase) table b refl
+table_near : (b : ℕ) → every near_case (cases_in table b) ≡ true
+unfolding table swallows cases_c cases_d cases_g cases_h cases_j cases_l cases_m cases_p cases_r cases_s cases_t cases_w cases_x cases_z cases_vowel cases_rest
+table_near b = letter_passes (every near_case) table b refl
 
 -- L8, for one visit
-pub visit-same : (u v : List ℕ) (p : ℕ) → Agree u v p → 0 < p → (m : Mode) → visit u p m ≡ visit v p m
+pub visit_same : (u v : List ℕ) (p : ℕ) → Agree u v p → 0 < p → (m : Mode) → visit u p m ≡ visit v p m
 unfolding visit
-visit-same u v p a h m =
-    first-same u v p a h m (cases_in table (get_or u p 0)) (table-near (get_or u p 0))
+visit_same u v p a h m =
+    first_same u v p a h m (cases_in table (get_or u p 0)) (table_near (get_or u p 0))
     ∙ ap (λ (b : ℕ). first (cases_in table b) v p m) (a.about p (omega arith) (omega arith))

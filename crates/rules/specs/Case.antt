@@ -18,7 +18,7 @@ pub record Case : Type 0 where
 abbrev pub case : Cond → String → String → ℕ → Case
 case c p a n = record { when = c; primary = p; alternate = a; over = n }
 
--- what a text adds; no text of the table has more than two bytes (`texts-short` in proofs/Bound.antt)
+-- what a text adds; no text of the table has more than two bytes (`texts_short` in proofs/Bound.antt)
 abbrev pub added : List ℕ → Add
 added [] = Nothing
 added (a ∷ []) = One a

@@ -8,8 +8,8 @@ use Rattle.rules.specs.Plain.{next}
 abbrev pub Gh : Cond
 Gh = next "H"
 
-abbrev pub afterConsonant : Cond
-afterConsonant = past 0 & non (vowel (back 1))
+abbrev pub after_consonant : Cond
+after_consonant = past 0 & non (vowel (back 1))
 
 -- Parker's rule, "hugh"
 abbrev pub parker : Cond
@@ -22,25 +22,25 @@ parker =
 abbrev pub laugh : Cond
 laugh = past 2 & byte (back 1) "U" & window (back 3) 1 ("C" ∷ "G" ∷ "L" ∷ "R" ∷ "T" ∷ [])
 
-abbrev pub afterOther : Cond
-afterOther = past 0 & non (byte (back 1) "I")
+abbrev pub after_other : Cond
+after_other = past 0 & non (byte (back 1) "I")
 
 abbrev pub GN : Cond
 GN = next "N"
 
-abbrev pub gnSecond : Cond
-gnSecond = place 1 & vowel (front 0) & non slavo
+abbrev pub gn_second : Cond
+gn_second = place 1 & vowel (front 0) & non slavo
 
--- the byte ahead is N, so the Y test never matters (`y-idle`, proofs/Idle.antt); it stands as in the Rust
-abbrev pub gnOther : Cond
-gnOther = non (window (ahead 2) 2 ("EY" ∷ [])) & non (next "Y") & non slavo
+-- the byte ahead is N, so the Y test never matters (`y_idle`, proofs/Idle.antt); it stands as in the Rust
+abbrev pub gn_other : Cond
+gn_other = non (window (ahead 2) 2 ("EY" ∷ [])) & non (next "Y") & non slavo
 
 abbrev pub gli : Cond
 gli = window (ahead 1) 2 ("LI" ∷ []) & non slavo
 
 -- -ges-, -gep-, -gel-, -gie- at beginning
-abbrev pub gerFirst : Cond
-gerFirst =
+abbrev pub ger_first : Cond
+ger_first =
     place 0
     & (next "Y"
     or window (ahead 1) 2 ("ES" ∷ "EP" ∷ "EB" ∷ "EL" ∷ "EY" ∷ "IB" ∷ "IL" ∷ "IN" ∷ "IE" ∷ "EI" ∷ "ER" ∷ []))
@@ -48,7 +48,7 @@ gerFirst =
 -- -ger-, -gy-: the Rust's `and` binds before its `or`, so the last three tests do not guard the first
 abbrev pub ger : Cond
 ger =
-    gerFirst
+    ger_first
     or (window (ahead 1) 2 ("ER" ∷ []) or next "Y")
     & non (window (front 0) 6 ("DANGER" ∷ "RANGER" ∷ "MANGER" ∷ []))
     & (place 0 or non (window (back 1) 1 ("E" ∷ "I" ∷ [])))
@@ -64,17 +64,17 @@ germanic =
     or window (front 0) 3 ("SCH" ∷ [])
     or window (ahead 1) 2 ("ET" ∷ [])
 
-unfoldable pub casesG : List Case
-casesG =
-    case (Gh & afterConsonant) "K" "K" 1
+unfoldable pub cases_g : List Case
+cases_g =
+    case (Gh & after_consonant) "K" "K" 1
     ∷ case (Gh & place 0 & byte (ahead 2) "I") "J" "J" 1
     ∷ case (Gh & place 0) "K" "K" 1
     ∷ case (Gh & parker) "" "" 1
     ∷ case (Gh & laugh) "F" "F" 1
-    ∷ case (Gh & afterOther) "K" "K" 1
+    ∷ case (Gh & after_other) "K" "K" 1
     ∷ case Gh "" "" 1
-    ∷ case (GN & gnSecond) "KN" "N" 1
-    ∷ case (GN & gnOther) "N" "KN" 1
+    ∷ case (GN & gn_second) "KN" "N" 1
+    ∷ case (GN & gn_other) "N" "KN" 1
     ∷ case GN "KN" "KN" 1
     ∷ case gli "KL" "L" 1
     ∷ case ger "K" "J" 1

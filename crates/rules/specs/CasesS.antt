@@ -14,10 +14,10 @@ sugar = place 0 & window (ahead 0) 5 ("SUGAR" ∷ [])
 abbrev pub SH : Cond
 SH = window (ahead 0) 2 ("SH" ∷ [])
 
-abbrev pub germanicSH : Cond
-germanicSH = window (ahead 1) 4 ("HEIM" ∷ "HOEK" ∷ "HOLM" ∷ "HOLZ" ∷ [])
+abbrev pub germanic_sh : Cond
+germanic_sh = window (ahead 1) 4 ("HEIM" ∷ "HOEK" ∷ "HOLM" ∷ "HOLZ" ∷ [])
 
--- Italian and Armenian; SIAN begins with SIA and never matters (`sian-idle`, proofs/Idle.antt); it stands as in the Rust
+-- Italian and Armenian; SIAN begins with SIA and never matters (`sian_idle`, proofs/Idle.antt); it stands as in the Rust
 abbrev pub SIO : Cond
 SIO = window (ahead 0) 3 ("SIO" ∷ "SIA" ∷ []) or window (ahead 0) 4 ("SIAN" ∷ [])
 
@@ -40,22 +40,22 @@ school = window (ahead 3) 2 ("OO" ∷ "ER" ∷ "EN" ∷ "UY" ∷ "ED" ∷ "EM" �
 abbrev pub schenker : Cond
 schenker = window (ahead 3) 2 ("ER" ∷ "EN" ∷ [])
 
-abbrev pub firstSCH : Cond
-firstSCH = place 0 & non (vowel (front 3)) & non (byte (front 3) "W")
+abbrev pub first_sch : Cond
+first_sch = place 0 & non (vowel (front 3)) & non (byte (front 3) "W")
 
 -- French, "resnais", "artois"
 abbrev pub artois : Cond
 artois = past 1 & left 0 & window (back 2) 2 ("AI" ∷ "OI" ∷ [])
 
-abbrev pub nextSZ : Cond
-nextSZ = window (ahead 1) 1 ("S" ∷ "Z" ∷ [])
+abbrev pub next_sz : Cond
+next_sz = window (ahead 1) 1 ("S" ∷ "Z" ∷ [])
 
 -- 15 is a way that no word takes: a last S has nothing ahead
-unfoldable pub casesS : List Case
-casesS =
+unfoldable pub cases_s : List Case
+cases_s =
     case island "" "" 0
     ∷ case sugar "X" "S" 0
-    ∷ case (SH & germanicSH) "S" "S" 1
+    ∷ case (SH & germanic_sh) "S" "S" 1
     ∷ case SH "X" "X" 1
     ∷ case (SIO & slavo) "S" "S" 2
     ∷ case SIO "S" "X" 2
@@ -63,12 +63,12 @@ casesS =
     ∷ case smith "S" "X" 0
     ∷ case (SC & SCH & school & schenker) "X" "SK" 2
     ∷ case (SC & SCH & school) "SK" "SK" 2
-    ∷ case (SC & SCH & firstSCH) "X" "S" 2
+    ∷ case (SC & SCH & first_sch) "X" "S" 2
     ∷ case (SC & SCH) "X" "X" 2
     ∷ case (SC & window (ahead 2) 1 ("I" ∷ "E" ∷ "Y" ∷ [])) "S" "S" 2
     ∷ case SC "SK" "SK" 2
-    ∷ case (artois & nextSZ) "" "S" 1
+    ∷ case (artois & next_sz) "" "S" 1
     ∷ case artois "" "S" 0
-    ∷ case nextSZ "S" "S" 1
+    ∷ case next_sz "S" "S" 1
     ∷ case always "S" "S" 0
     ∷ []

@@ -6,7 +6,7 @@ use Prim.Native.Char.{Char, code}
 use Prim.Native.String.{String}
 use Rattle.byte.specs.Text.{bytes}
 use Rattle.windows.specs.Window.{sees}
-use Rattle.spots.specs.Spot.{byte_at, vowelAt, stepBack, fromRear, endsAfter, isLong}
+use Rattle.spots.specs.Spot.{byte_at, vowel_at, step_back, from_rear, ends_after, is_long}
 
 infixl 40 ◌&◌
 infixl 30 ◌or◌
@@ -63,21 +63,21 @@ plain = mode false false
 -- the question `f` of a place, asked at a spot; one before the front answers no
 abbrev pub at : Spot → List ℕ → ℕ → (ℕ → Bool) → Bool
 at (ahead k) u p f = f (p + k)
-at (back k) u p f = stepBack p k f
+at (back k) u p f = step_back p k f
 at (front k) u p f = f k
-at (rear k) u p f = fromRear u k f
+at (rear k) u p f = from_rear u k f
 
 -- the condition holds in the word `u`, in capitals, at place `p`
 unfoldable pub holds : Cond → List ℕ → ℕ → Mode → Bool
 holds always u p m = true
 holds (window s n ts) u p m = at s u p (λ (q : ℕ). sees u q n (map bytes ts))
 holds (byte s b) u p m = at s u p (λ (q : ℕ). byte_at u q (code b))
-holds (vowel s) u p m = at s u p (λ (q : ℕ). vowelAt u q)
+holds (vowel s) u p m = at s u p (λ (q : ℕ). vowel_at u q)
 holds (place k) u p m = eqb p k
 holds (past k) u p m = ltb k p
 holds (below k) u p m = ltb p k
-holds (left k) u p m = endsAfter u p k
-holds (long n) u p m = isLong u n
+holds (left k) u p m = ends_after u p k
+holds (long n) u p m = is_long u n
 holds slavo u p m = m.mark
 holds edition2 u p m = m.second
 holds (non c) u p m = not (holds c u p m)

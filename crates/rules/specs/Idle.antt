@@ -17,22 +17,22 @@ asking (suc (suc n)) d (c ∷ cs) = c ∷ asking (suc n) d cs
 abbrev pub Alike : List Case → List Case → Type 0
 Alike cs ds = (u : List ℕ) (p : ℕ) (m : Mode) → first cs u p m ≡ first ds u p m
 
--- `gnOther` (CasesG) without its Y test: the byte ahead is N there
-abbrev pub gnOtherBrief : Cond
-gnOtherBrief = non (window (ahead 2) 2 ("EY" ∷ [])) & non slavo
+-- `gn_other` (CasesG) without its Y test: the byte ahead is N there
+abbrev pub gn_other_brief : Cond
+gn_other_brief = non (window (ahead 2) 2 ("EY" ∷ [])) & non slavo
 
 -- `SIO` (CasesS) without SIAN, which begins with SIA
-abbrev pub sioBrief : Cond
-sioBrief = window (ahead 0) 3 ("SIO" ∷ "SIA" ∷ [])
+abbrev pub sio_brief : Cond
+sio_brief = window (ahead 0) 3 ("SIO" ∷ "SIA" ∷ [])
 
 -- `ach` (CasesC), the place asked only once whether it is below 2
-abbrev pub achBrief : Cond
-achBrief =
+abbrev pub ach_brief : Cond
+ach_brief =
     non (below 1)
     & non (below 2 or vowel (back 2))
     & non (past 0 & non (window (back 1) 3 ("ACH" ∷ [])))
     & (non (byte (ahead 2) "I" or byte (ahead 2) "E") or window (back 2) 6 ("BACHER" ∷ "MACHER" ∷ []))
 
--- `firstJ` (CasesDL) without its JOSE test: a JOSE is Spanish, and has been answered
-abbrev pub firstJBrief : Cond
-firstJBrief = place 0
+-- `first_j` (CasesDL) without its JOSE test: a JOSE is Spanish, and has been answered
+abbrev pub first_j_brief : Cond
+first_j_brief = place 0

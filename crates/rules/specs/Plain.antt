@@ -10,31 +10,31 @@ use Rattle.rules.specs.Case.{Case, case}
 abbrev pub next : Char → Cond
 next c = byte (ahead 1) c
 
-unfoldable pub casesVowel : List Case
-casesVowel = case (place 0) "A" "A" 0 ∷ case always "" "" 0 ∷ []
+unfoldable pub cases_vowel : List Case
+cases_vowel = case (place 0) "A" "A" 0 ∷ case always "" "" 0 ∷ []
 
 -- a letter of one sound
 unfoldable pub swallows : Char → String → List Case
 swallows letter sound = case (next letter) sound sound 1 ∷ case always sound sound 0 ∷ []
 
-abbrev pub casesB : List Case
-casesB = swallows "B" "P"
+abbrev pub cases_b : List Case
+cases_b = swallows "B" "P"
 
-abbrev pub casesF : List Case
-casesF = swallows "F" "F"
+abbrev pub cases_f : List Case
+cases_f = swallows "F" "F"
 
-abbrev pub casesK : List Case
-casesK = swallows "K" "K"
+abbrev pub cases_k : List Case
+cases_k = swallows "K" "K"
 
-abbrev pub casesN : List Case
-casesN = swallows "N" "N"
+abbrev pub cases_n : List Case
+cases_n = swallows "N" "N"
 
-abbrev pub casesQ : List Case
-casesQ = swallows "Q" "K"
+abbrev pub cases_q : List Case
+cases_q = swallows "Q" "K"
 
-abbrev pub casesV : List Case
-casesV = swallows "V" "F"
+abbrev pub cases_v : List Case
+cases_v = swallows "V" "F"
 
 -- digits, signs and control bytes add nothing
-unfoldable pub casesRest : List Case
-casesRest = case always "" "" 0 ∷ []
+unfoldable pub cases_rest : List Case
+cases_rest = case always "" "" 0 ∷ []

@@ -18,41 +18,41 @@ use contract.Lifetimes.{Lfts}
 -- the word, the two buffers, two numbers and the answer: the buffers at exit are the second and the third, the answer the sixth
 module _ (κs : Lfts 4) (a : Dens κs encode-kinds.ps) (x y : (res_t encode-kinds.r κs).Denot) (s t : AtExit (ended_of 4 encode-kinds.ps encode-kinds.r) κs)
     (p : encode.Post κs a x s) (q : encode.Post κs a y t) where
-  pub one-numbers : s.1.1.1.1.1.0.now ≡ t.1.1.1.1.1.0.now
-  one-numbers = p.0 ∙ sym q.0
+  pub one_numbers : s.1.1.1.1.1.0.now ≡ t.1.1.1.1.1.0.now
+  one_numbers = p.0 ∙ sym q.0
 
-  pub one-primary : s.1.0.now ≡ t.1.0.now
-  one-primary = p.1.primary ∙ sym q.1.primary
+  pub one_primary : s.1.0.now ≡ t.1.0.now
+  one_primary = p.1.primary ∙ sym q.1.primary
 
-  pub one-alternate : s.1.1.0.now ≡ t.1.1.0.now
-  one-alternate = p.1.alternate ∙ sym q.1.alternate
+  pub one_alternate : s.1.1.0.now ≡ t.1.1.0.now
+  one_alternate = p.1.alternate ∙ sym q.1.alternate
 
 -- the edition's number comes first
 module _ (κs : Lfts 4) (a : Dens κs encode-in-kinds.ps) (x y : (res_t encode-in-kinds.r κs).Denot) (s t : AtExit (ended_of 4 encode-in-kinds.ps encode-in-kinds.r) κs)
     (p : encode-in.Post κs a x s) (q : encode-in.Post κs a y t) where
-  pub one-numbers-in : s.1.1.1.1.1.1.0.now ≡ t.1.1.1.1.1.1.0.now
-  one-numbers-in = p.0 ∙ sym q.0
+  pub one_numbers_in : s.1.1.1.1.1.1.0.now ≡ t.1.1.1.1.1.1.0.now
+  one_numbers_in = p.0 ∙ sym q.0
 
-  pub one-primary-in : s.1.1.0.now ≡ t.1.1.0.now
-  one-primary-in = p.1.primary ∙ sym q.1.primary
+  pub one_primary_in : s.1.1.0.now ≡ t.1.1.0.now
+  one_primary_in = p.1.primary ∙ sym q.1.primary
 
-  pub one-alternate-in : s.1.1.1.0.now ≡ t.1.1.1.0.now
-  one-alternate-in = p.1.alternate ∙ sym q.1.alternate
+  pub one_alternate_in : s.1.1.1.0.now ≡ t.1.1.1.0.now
+  one_alternate_in = p.1.alternate ∙ sym q.1.alternate
 
 module _ (κs : Lfts 3) (a : Dens κs equal-kinds.ps) (x y : (res_t equal-kinds.r κs).Denot) (s t : AtExit (ended_of 3 equal-kinds.ps equal-kinds.r) κs) where
-  pub one-equal : equal.Post κs a x s → equal.Post κs a y t → s.1.1.1.1.1.0.now ≡ t.1.1.1.1.1.0.now
-  one-equal p q = p ∙ sym q
+  pub one_equal : equal.Post κs a x s → equal.Post κs a y t → s.1.1.1.1.1.0.now ≡ t.1.1.1.1.1.0.now
+  one_equal p q = p ∙ sym q
 
 module _ (κs : Lfts 3) (a : Dens κs book-add-kinds.ps) (x y : (res_t book-add-kinds.r κs).Denot) (s t : AtExit (ended_of 3 book-add-kinds.ps book-add-kinds.r) κs) where
-  pub one-add-numbers : book-add.Post κs a x s → book-add.Post κs a y t → s.1.1.1.1.0.now ≡ t.1.1.1.1.0.now
-  one-add-numbers p q = p.0 ∙ sym q.0
+  pub one_add_numbers : book-add.Post κs a x s → book-add.Post κs a y t → s.1.1.1.1.0.now ≡ t.1.1.1.1.0.now
+  one_add_numbers p q = p.0 ∙ sym q.0
 
-  pub one-add-room : book-add.Post κs a x s → book-add.Post κs a y t → s.0.now ≡ t.0.now
-  one-add-room p q = p.1 ∙ sym q.1
+  pub one_add_room : book-add.Post κs a x s → book-add.Post κs a y t → s.0.now ≡ t.0.now
+  one_add_room p q = p.1 ∙ sym q.1
 
 module _ (κs : Lfts 3) (a : Dens κs book-append-kinds.ps) (x y : (res_t book-append-kinds.r κs).Denot) (s t : AtExit (ended_of 3 book-append-kinds.ps book-append-kinds.r) κs) where
-  pub one-append-numbers : book-append.Post κs a x s → book-append.Post κs a y t → s.1.1.1.1.1.1.1.1.0.now ≡ t.1.1.1.1.1.1.1.1.0.now
-  one-append-numbers p q = p.0 ∙ sym q.0
+  pub one_append_numbers : book-append.Post κs a x s → book-append.Post κs a y t → s.1.1.1.1.1.1.1.1.0.now ≡ t.1.1.1.1.1.1.1.1.0.now
+  one_append_numbers p q = p.0 ∙ sym q.0
 
-  pub one-append-room : book-append.Post κs a x s → book-append.Post κs a y t → s.0.now ≡ t.0.now
-  one-append-room p q = p.1 ∙ sym q.1
+  pub one_append_room : book-append.Post κs a x s → book-append.Post κs a y t → s.0.now ≡ t.0.now
+  one_append_room p q = p.1 ∙ sym q.1

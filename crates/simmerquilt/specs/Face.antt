@@ -4,8 +4,8 @@ use Rattle.std.specs.Prelude.{ℕ}
 use Rattle.header.specs.declared.Header.{Header}
 use Rattle.book.specs.declared.End.{End}
 
-abbrev pub headerFrom : ℕ → ℕ → ℕ → Header
-headerFrom format edition cut = record { format = format; edition = edition; cut = cut }
+abbrev pub header_from : ℕ → ℕ → ℕ → Header
+header_from format edition cut = record { format = format; edition = edition; cut = cut }
 
-abbrev pub endFrom : ℕ → ℕ → ℕ → ℕ → ℕ → End
-endFrom format edition cut len floor = record { header = headerFrom format edition cut; len = len; floor = floor }
+abbrev pub end_from : ℕ → ℕ → ℕ → ℕ → ℕ → End
+end_from format edition cut len floor = record { header = header_from format edition cut; len = len; floor = floor }

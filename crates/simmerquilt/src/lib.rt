@@ -3,17 +3,17 @@
 ghost use Rattle.std.specs.Prelude.{◌≡◌, length};
 ghost use Rattle.terms.specs.declared.Edition.TheVariants.{E1};
 ghost use Rattle.encoder.specs.Encode.{answer_of, Encoded};
-ghost use Rattle.editions.specs.Editions.{replyOf, EncodedIn};
-ghost use Rattle.equality.specs.Equality.{verdictOf};
-ghost use Rattle.book.specs.Room.{readIn};
+ghost use Rattle.editions.specs.Editions.{reply_of, EncodedIn};
+ghost use Rattle.equality.specs.Equality.{verdict_of};
+ghost use Rattle.book.specs.Room.{read_in};
 ghost use Rattle.putting.specs.Laid.{left};
-ghost use Rattle.keying.specs.Keyed.{newBytes};
+ghost use Rattle.keying.specs.Keyed.{new_bytes};
 ghost use Rattle.appending.specs.Ended.{behind, placed_at};
-ghost use Rattle.adding.specs.Adding.{addedBy, leftBy};
-ghost use Rattle.asking.specs.Asked.{limitOf, choice_of};
-ghost use Rattle.answers.specs.Numbers.{answerNumbers, replyNumbers, verdictNumbers};
-ghost use Rattle.telling_books.specs.Numbers.{madeNumbers, endedNumbers};
-ghost use Rattle.simmerquilt.specs.Face.{endFrom, headerFrom};
+ghost use Rattle.adding.specs.Adding.{added_by, left_by};
+ghost use Rattle.asking.specs.Asked.{limit_of, choice_of};
+ghost use Rattle.answers.specs.Numbers.{answer_numbers, reply_numbers, verdict_numbers};
+ghost use Rattle.telling_books.specs.Numbers.{made_numbers, ended_numbers};
+ghost use Rattle.simmerquilt.specs.Face.{end_from, header_from};
 
 use asking::limit_of;
 use book::End;
@@ -29,8 +29,8 @@ pub extern "C" fn simmerquilt_book_add(
     name: &[u8],
     out: &mut [u64; 2],
 )
-    ensures told { out.new ≡ madeNumbers (addedBy room.old «length» station name.now (readIn room.old «length»)) }
-    ensures room { room.new ≡ leftBy room.old «length» station name.now (readIn room.old «length») }
+    ensures told { out.new ≡ made_numbers (added_by room.old «length» station name.now (read_in room.old «length»)) }
+    ensures room { room.new ≡ left_by room.old «length» station name.now (read_in room.old «length») }
 {
     let made = adding::add(room, length as usize, station, name);
     telling_books::tell_made(made, out);
@@ -49,8 +49,8 @@ pub extern "C" fn simmerquilt_book_append(
     name: &[u8],
     out: &mut [u64; 3],
 )
-    ensures told { out.new ≡ endedNumbers (behind (endFrom format edition cut «length» floor) station (placed_at room.old (endFrom format edition cut «length» floor) station name.now)) }
-    ensures room { room.new ≡ left (placed_at room.old (endFrom format edition cut «length» floor) station name.now) room.old «length» (newBytes (headerFrom format edition cut) station name.now) }
+    ensures told { out.new ≡ ended_numbers (behind (end_from format edition cut «length» floor) station (placed_at room.old (end_from format edition cut «length» floor) station name.now)) }
+    ensures room { room.new ≡ left (placed_at room.old (end_from format edition cut «length» floor) station name.now) room.old «length» (new_bytes (header_from format edition cut) station name.now) }
 {
     let header = Header {
         format,
@@ -80,8 +80,8 @@ pub extern "C" fn simmerquilt_encode(
     limit: u64,
     out: &mut [u64; 5],
 )
-    ensures told { out.new ≡ answerNumbers (answer_of E1 (limitOf limited limit) word.now (length primary.old) (length alternate.old)) }
-    ensures buffers { Encoded E1 (limitOf limited limit) word.now primary.old alternate.old (answer_of E1 (limitOf limited limit) word.now (length primary.old) (length alternate.old)) primary.new alternate.new }
+    ensures told { out.new ≡ answer_numbers (answer_of E1 (limit_of limited limit) word.now (length primary.old) (length alternate.old)) }
+    ensures buffers { Encoded E1 (limit_of limited limit) word.now primary.old alternate.old (answer_of E1 (limit_of limited limit) word.now (length primary.old) (length alternate.old)) primary.new alternate.new }
 {
     let answer = Encoder::new(limit_of(limited, limit)).encode(word, primary, alternate);
     answers::tell_answer(answer, out);
@@ -98,8 +98,8 @@ pub extern "C" fn simmerquilt_encode_in(
     limit: u64,
     out: &mut [u64; 5],
 )
-    ensures told { out.new ≡ replyNumbers (replyOf edition (limitOf limited limit) word.now (length primary.old) (length alternate.old)) }
-    ensures buffers { EncodedIn edition (limitOf limited limit) word.now primary.old alternate.old (replyOf edition (limitOf limited limit) word.now (length primary.old) (length alternate.old)) primary.new alternate.new }
+    ensures told { out.new ≡ reply_numbers (reply_of edition (limit_of limited limit) word.now (length primary.old) (length alternate.old)) }
+    ensures buffers { EncodedIn edition (limit_of limited limit) word.now primary.old alternate.old (reply_of edition (limit_of limited limit) word.now (length primary.old) (length alternate.old)) primary.new alternate.new }
 {
     let reply = editions::encode_in(edition, limit_of(limited, limit), word, primary, alternate);
     answers::tell_reply(reply, out);
@@ -115,7 +115,7 @@ pub extern "C" fn simmerquilt_equal(
     alternate: bool,
     out: &mut [u64; 4],
 )
-    ensures { out.new ≡ verdictNumbers (verdictOf (limitOf limited limit) (choice_of alternate) first.now second.now) }
+    ensures { out.new ≡ verdict_numbers (verdict_of (limit_of limited limit) (choice_of alternate) first.now second.now) }
 {
     let verdict = equality::equal(
         limit_of(limited, limit),

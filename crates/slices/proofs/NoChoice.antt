@@ -11,12 +11,12 @@ use Rattle.slices.proofs.left_from.Kinds as left-from-kinds
 use Rattle.slices.proofs.left_from.Reads as left-from
 use contract.Lifetimes.{Lfts}
 
-pub one-least : OneResult least-kinds.ps least-kinds.r least.Post
-one-least κs a x y s t p q = p ∙ sym q
+pub one_least : OneResult least-kinds.ps least-kinds.r least.Post
+one_least κs a x y s t p q = p ∙ sym q
 
-pub one-left-from : OneResult left-from-kinds.ps left-from-kinds.r left-from.Post
-one-left-from κs a x y s t p q = p ∙ sym q
+pub one_left_from : OneResult left-from-kinds.ps left-from-kinds.r left-from.Post
+one_left_from κs a x y s t p q = p ∙ sym q
 
 module _ (κs : Lfts 1) (a : Dens κs bytes-of-kinds.ps) (x y : (res_t bytes-of-kinds.r κs).Denot) (s t : AtExit (ended_of 1 bytes-of-kinds.ps bytes-of-kinds.r) κs) where
-  pub one-bytes-of : bytes_of.Post κs a x s → bytes_of.Post κs a y t → x.now ≡ y.now
-  one-bytes-of p q = p ∙ sym q
+  pub one_bytes_of : bytes_of.Post κs a x s → bytes_of.Post κs a y t → x.now ≡ y.now
+  one_bytes_of p q = p ∙ sym q

@@ -14,20 +14,20 @@ use Rattle.spots.proofs.from_end.Reads as from_end
 use Rattle.spots.proofs.has_length.Kinds as has-length-kinds
 use Rattle.spots.proofs.has_length.Reads as has-length
 
-pub one-char-ahead : OneResult char-ahead-kinds.ps char-ahead-kinds.r char-ahead.Post
-one-char-ahead κs a x y s t p q = p ∙ sym q
+pub one_char_ahead : OneResult char-ahead-kinds.ps char-ahead-kinds.r char-ahead.Post
+one_char_ahead κs a x y s t p q = p ∙ sym q
 
-pub one-char-behind : OneResult char-behind-kinds.ps char-behind-kinds.r char-behind.Post
-one-char-behind κs a x y s t p q = p ∙ sym q
+pub one_char_behind : OneResult char-behind-kinds.ps char-behind-kinds.r char-behind.Post
+one_char_behind κs a x y s t p q = p ∙ sym q
 
-pub one-vowel-ahead : OneResult vowel-ahead-kinds.ps vowel-ahead-kinds.r vowel-ahead.Post
-one-vowel-ahead κs a x y s t p q = p ∙ sym q
+pub one_vowel_ahead : OneResult vowel-ahead-kinds.ps vowel-ahead-kinds.r vowel-ahead.Post
+one_vowel_ahead κs a x y s t p q = p ∙ sym q
 
-pub one-vowel-behind : OneResult vowel-behind-kinds.ps vowel-behind-kinds.r vowel-behind.Post
-one-vowel-behind κs a x y s t p q = p ∙ sym q
+pub one_vowel_behind : OneResult vowel-behind-kinds.ps vowel-behind-kinds.r vowel-behind.Post
+one_vowel_behind κs a x y s t p q = p ∙ sym q
 
-pub one-from-end : OneResult from-end-kinds.ps from-end-kinds.r from_end.Post
-one-from-end κs a x y s t p q = p ∙ sym q
+pub one_from_end : OneResult from-end-kinds.ps from-end-kinds.r from_end.Post
+one_from_end κs a x y s t p q = p ∙ sym q
 
-pub one-has-length : OneResult has-length-kinds.ps has-length-kinds.r has-length.Post
-one-has-length κs a x y s t p q = p ∙ sym q
+pub one_has_length : OneResult has-length-kinds.ps has-length-kinds.r has-length.Post
+one_has_length κs a x y s t p q = p ∙ sym q

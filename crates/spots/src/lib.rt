@@ -2,7 +2,7 @@
 // a place below 0 or past the end is no match.
 ghost use Rattle.std.specs.Prelude.{◌≡◌, ℕ, ◌+◌};
 ghost use Rattle.byte.specs.Text.{upper};
-ghost use Rattle.spots.specs.Spot.{byte_at, vowelAt, stepBack, endsAfter, isLong};
+ghost use Rattle.spots.specs.Spot.{byte_at, vowel_at, step_back, ends_after, is_long};
 
 // The byte `k` ahead of `at` is `b`.
 pub fn char_ahead(w: &[u8], at: usize, k: usize, b: u8) -> bool
@@ -19,7 +19,7 @@ pub fn char_ahead(w: &[u8], at: usize, k: usize, b: u8) -> bool
 
 // The byte `k` back from `at` is `b`.
 pub fn char_behind(w: &[u8], at: usize, k: usize, b: u8) -> bool
-    ensures { result ≡ stepBack at k (λ (q : ℕ). byte_at (upper w.now) q b) }
+    ensures { result ≡ step_back at k (λ (q : ℕ). byte_at (upper w.now) q b) }
 {
     if at < k {
         return false;
@@ -29,7 +29,7 @@ pub fn char_behind(w: &[u8], at: usize, k: usize, b: u8) -> bool
 
 // A vowel stands `k` bytes ahead of `at`.
 pub fn vowel_ahead(w: &[u8], at: usize, k: usize) -> bool
-    ensures { result ≡ vowelAt (upper w.now) (at + k) }
+    ensures { result ≡ vowel_at (upper w.now) (at + k) }
 {
     if w.len() <= at {
         return false;
@@ -42,7 +42,7 @@ pub fn vowel_ahead(w: &[u8], at: usize, k: usize) -> bool
 
 // A vowel stands `k` bytes back from `at`.
 pub fn vowel_behind(w: &[u8], at: usize, k: usize) -> bool
-    ensures { result ≡ stepBack at k (λ (q : ℕ). vowelAt (upper w.now) q) }
+    ensures { result ≡ step_back at k (λ (q : ℕ). vowel_at (upper w.now) q) }
 {
     if at < k {
         return false;
@@ -52,7 +52,7 @@ pub fn vowel_behind(w: &[u8], at: usize, k: usize) -> bool
 
 // Exactly `k` bytes stand behind `at`.
 pub fn from_end(w: &[u8], at: usize, k: usize) -> bool
-    ensures { result ≡ endsAfter (upper w.now) at k }
+    ensures { result ≡ ends_after (upper w.now) at k }
 {
     if w.len() <= k {
         return false;
@@ -62,7 +62,7 @@ pub fn from_end(w: &[u8], at: usize, k: usize) -> bool
 
 // The word has `n` bytes.
 pub fn has_length(w: &[u8], n: usize) -> bool
-    ensures { result ≡ isLong (upper w.now) n }
+    ensures { result ≡ is_long (upper w.now) n }
 {
     w.len() == n
 }

@@ -11,31 +11,31 @@ use Rattle.terms.specs.declared.Limit.TheVariants.{At}
 use Rattle.fields.specs.Field.{number}
 use Rattle.fields.specs.Put.{Put}
 use Rattle.fields.proofs.Put.{wide}
-use Rattle.header.specs.Head.{headerBytes, cut_of}
+use Rattle.header.specs.Head.{header_bytes, cut_of}
 use Rattle.putting.specs.declared.Made.{Made}
 use Rattle.putting.specs.declared.Made.TheVariants.{Length, Fault}
 use Rattle.putting.specs.Laid.{Placed}
-use Rattle.starting.specs.New.{newHeader, cutFault}
-use Rattle.putting.proofs.Laid.{placed-fault, placed-good}
+use Rattle.starting.specs.New.{new_header, cut_fault}
+use Rattle.putting.proofs.Laid.{placed_fault, placed_good}
 
 -- ---- a new book
-pub header_is : (cut : ℕ) → headerBytes (newHeader cut) ≡ number 2 ++ (number 2 ++ number cut)
-unfolding headerBytes
+pub header_is : (cut : ℕ) → header_bytes (new_header cut) ≡ number 2 ++ (number 2 ++ number cut)
+unfolding header_bytes
 header_is cut = refl
 
-pub header-length : (cut a b c : ℕ) → a ≡ length (groups 4 2) → b ≡ length (groups 4 2) → c ≡ length (groups 4 cut) → length (headerBytes (newHeader cut)) ≡ a + b + c
-unfolding headerBytes
-header-length cut a b c e f g =
+pub header_length : (cut a b c : ℕ) → a ≡ length (groups 4 2) → b ≡ length (groups 4 2) → c ≡ length (groups 4 cut) → length (header_bytes (new_header cut)) ≡ a + b + c
+unfolding header_bytes
+header_length cut a b c e f g =
     omega (arith, length-append (number 2) (number 2 ++ number cut), length-append (number 2) (number cut), wide 2 a e, wide 2 b f, wide cut c g)
 
-pub begun : (cut : ℕ) (room : List ℕ) (r : ℕ) (room' : List ℕ) → Put room 0 (number 2 ++ (number 2 ++ number cut)) r room' → length (headerBytes (newHeader cut)) ≤ length room
-    → Placed 0 room 0 (headerBytes (newHeader cut)) (Length r) room'
-begun cut room r room' p h = placed-good room 0 (headerBytes (newHeader cut)) 0 refl (omega arith) r room' (rw (header_is cut) p)
+pub begun : (cut : ℕ) (room : List ℕ) (r : ℕ) (room' : List ℕ) → Put room 0 (number 2 ++ (number 2 ++ number cut)) r room' → length (header_bytes (new_header cut)) ≤ length room
+    → Placed 0 room 0 (header_bytes (new_header cut)) (Length r) room'
+begun cut room r room' p h = placed_good room 0 (header_bytes (new_header cut)) 0 refl (omega arith) r room' (rw (header_is cut) p)
 
 module _ (l : Limit) (room : List ℕ) where
-  pub started : (cut : ℕ) → cut_of l ≡ cut → cut < 2 ^ 28 → (r : Made) (room' : List ℕ) → Placed 0 room 0 (headerBytes (newHeader cut)) r room'
-      → Placed (cutFault (cut_of l)) room 0 (headerBytes (newHeader (cut_of l))) r room'
+  pub started : (cut : ℕ) → cut_of l ≡ cut → cut < 2 ^ 28 → (r : Made) (room' : List ℕ) → Placed 0 room 0 (header_bytes (new_header cut)) r room'
+      → Placed (cut_fault (cut_of l)) room 0 (header_bytes (new_header (cut_of l))) r room'
   started cut e h r room' p = rw (e, lt-ltb cut (2 ^ 28) h) p
 
-  pub over-cut : (n : ℕ) → l ≡ At n → 268435454 < n → Placed (cutFault (cut_of l)) room 0 (headerBytes (newHeader (cut_of l))) (Fault 5) room
-  over-cut n e h = rw e (placed-fault room 0 (headerBytes (newHeader (n + 1))) 5 (cutFault (n + 1)) (rw (le-ltb (n + 1) (2 ^ 28) (omega arith))) (λ z. omega arith))
+  pub over_cut : (n : ℕ) → l ≡ At n → 268435454 < n → Placed (cut_fault (cut_of l)) room 0 (header_bytes (new_header (cut_of l))) (Fault 5) room
+  over_cut n e h = rw e (placed_fault room 0 (header_bytes (new_header (n + 1))) 5 (cut_fault (n + 1)) (rw (le-ltb (n + 1) (2 ^ 28) (omega arith))) (λ z. omega arith))

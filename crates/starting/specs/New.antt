@@ -1,11 +1,11 @@
 -- A new book, with no records.
 use Rattle.std.specs.Prelude.{ℕ, ◌^◌, cond, ltb}
-use Rattle.terms.specs.Refusals.{badNumber}
+use Rattle.terms.specs.Refusals.{bad_number}
 use Rattle.header.specs.declared.Header.{Header}
-use Rattle.terms.specs.Editions.{newFormat, newEdition}
+use Rattle.terms.specs.Editions.{new_format, new_edition}
 
-abbrev pub newHeader : ℕ → Header
-newHeader cut = record { format = newFormat; edition = newEdition; cut = cut }
+abbrev pub new_header : ℕ → Header
+new_header cut = record { format = new_format; edition = new_edition; cut = cut }
 
-abbrev pub cutFault : ℕ → ℕ
-cutFault cut = cond (ltb cut (2 ^ 28)) 0 badNumber
+abbrev pub cut_fault : ℕ → ℕ
+cut_fault cut = cond (ltb cut (2 ^ 28)) 0 bad_number

@@ -4,5 +4,5 @@ use Rattle.basics.proofs.Choice.{OneResult}
 use Rattle.tally.proofs.counted.Kinds as counted-kinds
 use Rattle.tally.proofs.counted.Reads as counted
 
-pub one-counted : OneResult counted-kinds.ps counted-kinds.r counted.Post
-one-counted κs a x y s t p q = p ∙ sym q
+pub one_counted : OneResult counted-kinds.ps counted-kinds.r counted.Post
+one_counted κs a x y s t p q = p ∙ sym q

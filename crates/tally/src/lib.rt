@@ -1,7 +1,7 @@
 // The running tally of a walk: both code lengths and the visit count, and what a visit makes of it, by value. It is lent to the
 // letter rules (`visit_into`, crates/letters), as the Rust lends its DoubleMetaphoneResult.
 ghost use Rattle.std.specs.Prelude.{◌≡◌, ◌+◌, ◌-◌, ◌<◌, ◌^◌, min};
-ghost use Rattle.tally.specs.Tally.{longer, withPrimary, withAlternate, counted};
+ghost use Rattle.tally.specs.Tally.{longer, with_primary, with_alternate, counted};
 
 use outcome::{Add, Visit};
 
@@ -33,7 +33,7 @@ fn longer(len: usize, limit: usize, add: Add) -> usize
 
 // The primary length takes an addition (the Rust's append_primary).
 fn append_primary(t: Tally, limit: usize, add: Add) -> Tally
-    ensures { result ≡ withPrimary t limit add }
+    ensures { result ≡ with_primary t limit add }
 {
     Tally {
         primary: longer(t.primary, limit, add),
@@ -44,7 +44,7 @@ fn append_primary(t: Tally, limit: usize, add: Add) -> Tally
 
 // The alternate length takes an addition (the Rust's append_alternate).
 fn append_alternate(t: Tally, limit: usize, add: Add) -> Tally
-    ensures { result ≡ withAlternate t limit add }
+    ensures { result ≡ with_alternate t limit add }
 {
     Tally {
         primary: t.primary,

@@ -18,25 +18,25 @@ use Rattle.telling_books.proofs.tell_joined.Reads as joined
 use contract.Lifetimes.{Lfts}
 
 module _ (κs : Lfts 1) (a : Dens κs made-kinds.ps) (x y : (res_t made-kinds.r κs).Denot) (s t : AtExit (ended_of 1 made-kinds.ps made-kinds.r) κs) where
-  pub one-made : made.Post κs a x s → made.Post κs a y t → s.1.0.now ≡ t.1.0.now
-  one-made p q = p ∙ sym q
+  pub one_made : made.Post κs a x s → made.Post κs a y t → s.1.0.now ≡ t.1.0.now
+  one_made p q = p ∙ sym q
 
 module _ (κs : Lfts 1) (a : Dens κs opened-kinds.ps) (x y : (res_t opened-kinds.r κs).Denot) (s t : AtExit (ended_of 1 opened-kinds.ps opened-kinds.r) κs) where
-  pub one-opened : opened.Post κs a x s → opened.Post κs a y t → s.1.0.now ≡ t.1.0.now
-  one-opened p q = p ∙ sym q
+  pub one_opened : opened.Post κs a x s → opened.Post κs a y t → s.1.0.now ≡ t.1.0.now
+  one_opened p q = p ∙ sym q
 
 module _ (κs : Lfts 1) (a : Dens κs step-kinds.ps) (x y : (res_t step-kinds.r κs).Denot) (s t : AtExit (ended_of 1 step-kinds.ps step-kinds.r) κs) where
-  pub one-step : step.Post κs a x s → step.Post κs a y t → s.1.0.now ≡ t.1.0.now
-  one-step p q = p ∙ sym q
+  pub one_step : step.Post κs a x s → step.Post κs a y t → s.1.0.now ≡ t.1.0.now
+  one_step p q = p ∙ sym q
 
 module _ (κs : Lfts 1) (a : Dens κs whole_Kinds.ps) (x y : (res_t whole_Kinds.r κs).Denot) (s t : AtExit (ended_of 1 whole_Kinds.ps whole_Kinds.r) κs) where
-  pub one-whole : whole.Post κs a x s → whole.Post κs a y t → s.1.0.now ≡ t.1.0.now
-  one-whole p q = p ∙ sym q
+  pub one_whole : whole.Post κs a x s → whole.Post κs a y t → s.1.0.now ≡ t.1.0.now
+  one_whole p q = p ∙ sym q
 
 module _ (κs : Lfts 1) (a : Dens κs ended-kinds.ps) (x y : (res_t ended-kinds.r κs).Denot) (s t : AtExit (ended_of 1 ended-kinds.ps ended-kinds.r) κs) where
   pub one_ended : ended.Post κs a x s → ended.Post κs a y t → s.1.0.now ≡ t.1.0.now
   one_ended p q = p ∙ sym q
 
 module _ (κs : Lfts 1) (a : Dens κs joined-kinds.ps) (x y : (res_t joined-kinds.r κs).Denot) (s t : AtExit (ended_of 1 joined-kinds.ps joined-kinds.r) κs) where
-  pub one-joined : joined.Post κs a x s → joined.Post κs a y t → s.1.0.now ≡ t.1.0.now
-  one-joined p q = p ∙ sym q
+  pub one_joined : joined.Post κs a x s → joined.Post κs a y t → s.1.0.now ≡ t.1.0.now
+  one_joined p q = p ∙ sym q

@@ -1,6 +1,6 @@
 // The answers of the book and the join, told as a host's numbers.
 ghost use Rattle.std.specs.Prelude.{◌≡◌};
-ghost use Rattle.telling_books.specs.Numbers.{madeNumbers, openedNumbers, stepNumbers, wholeNumbers, endedNumbers, joinedNumbers};
+ghost use Rattle.telling_books.specs.Numbers.{made_numbers, opened_numbers, step_numbers, whole_numbers, ended_numbers, joined_numbers};
 
 use book::{Ended, Reading};
 use entry::Step;
@@ -10,7 +10,7 @@ use putting::Made;
 
 // Number and length.
 pub fn tell_made(made: Made, out: &mut [u64; 2])
-    ensures { out.new ≡ madeNumbers made }
+    ensures { out.new ≡ made_numbers made }
 {
     match made {
         Made::Length(n) => {
@@ -24,7 +24,7 @@ pub fn tell_made(made: Made, out: &mut [u64; 2])
 
 // Number, format, edition, cut, and the first cursor.
 pub fn tell_opened(opened: Opened, out: &mut [u64; 6])
-    ensures { out.new ≡ openedNumbers opened }
+    ensures { out.new ≡ opened_numbers opened }
 {
     match opened {
         Opened::Book { header, first } => {
@@ -45,7 +45,7 @@ pub fn tell_opened(opened: Opened, out: &mut [u64; 6])
 
 // Number, 1 for a record, station, name, primary, alternate, the next cursor, and the kind.
 pub fn tell_step(step: Step, out: &mut [u64; 12])
-    ensures { out.new ≡ stepNumbers step }
+    ensures { out.new ≡ step_numbers step }
 {
     match step {
         Step::Record {
@@ -82,7 +82,7 @@ pub fn tell_step(step: Step, out: &mut [u64; 12])
 
 // Number, format, edition, cut, records, the least station of a further record, and how many records are live.
 pub fn tell_whole(whole: Reading, out: &mut [u64; 7])
-    ensures { out.new ≡ wholeNumbers whole }
+    ensures { out.new ≡ whole_numbers whole }
 {
     match whole {
         Reading::Book {
@@ -108,7 +108,7 @@ pub fn tell_whole(whole: Reading, out: &mut [u64; 7])
 
 // Number, length, and the least station of a further record.
 pub fn tell_ended(ended: Ended, out: &mut [u64; 3])
-    ensures { out.new ≡ endedNumbers ended }
+    ensures { out.new ≡ ended_numbers ended }
 {
     match ended {
         Ended::At(end) => {
@@ -122,7 +122,7 @@ pub fn tell_ended(ended: Ended, out: &mut [u64; 3])
 
 // Number and count of pairs.
 pub fn tell_joined(joined: Joined, out: &mut [u64; 2])
-    ensures { out.new ≡ joinedNumbers joined }
+    ensures { out.new ≡ joined_numbers joined }
 {
     match joined {
         Joined::Pairs(n) => {

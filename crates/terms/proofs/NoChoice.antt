@@ -6,8 +6,8 @@ use Rattle.terms.proofs.Edition.is_second.Reads as is-second
 use Rattle.terms.proofs.edition_of.Kinds as edition-of-kinds
 use Rattle.terms.proofs.edition_of.Reads as edition-of
 
-pub one-is-second : OneResult is-second-kinds.ps is-second-kinds.r is-second.Post
-one-is-second κs a x y s t p q = p ∙ sym q
+pub one_is_second : OneResult is-second-kinds.ps is-second-kinds.r is-second.Post
+one_is_second κs a x y s t p q = p ∙ sym q
 
-pub one-edition-of : OneResult edition-of-kinds.ps edition-of-kinds.r edition-of.Post
-one-edition-of κs a x y s t p q = p ∙ sym q
+pub one_edition_of : OneResult edition-of-kinds.ps edition-of-kinds.r edition-of.Post
+one_edition_of κs a x y s t p q = p ∙ sym q

@@ -4,26 +4,26 @@ use Rattle.terms.specs.declared.Edition.{Edition}
 use Rattle.terms.specs.declared.Edition.TheVariants.{E1, E2}
 
 -- those from 1 to these
-abbrev pub lastFormat : ℕ
-lastFormat = 2
+abbrev pub last_format : ℕ
+last_format = 2
 
-abbrev pub lastEdition : ℕ
-lastEdition = 2
+abbrev pub last_edition : ℕ
+last_edition = 2
 
-abbrev pub isUnknown : ℕ → Bool
-isUnknown n = eqb n 0 || ltb lastEdition n
+abbrev pub is_unknown : ℕ → Bool
+is_unknown n = eqb n 0 || ltb last_edition n
 
 -- a new book's
-abbrev pub newFormat : ℕ
-newFormat = 2
+abbrev pub new_format : ℕ
+new_format = 2
 
-abbrev pub newEdition : ℕ
-newEdition = 2
+abbrev pub new_edition : ℕ
+new_edition = 2
 
-abbrev pub isSecond : Edition → Bool
-isSecond E1 = false
-isSecond E2 = true
+abbrev pub is_second : Edition → Bool
+is_second E1 = false
+is_second E2 = true
 
 -- the edition of a number that is not unknown
-abbrev pub editionOf : ℕ → Edition
-editionOf n = cond (eqb n 1) E1 E2
+abbrev pub edition_of : ℕ → Edition
+edition_of n = cond (eqb n 1) E1 E2

@@ -9,9 +9,9 @@ clip Whole c = c
 clip (At n) c = take n c
 
 -- the bytes that a word may have, before trimming
-abbrev pub wordLimit : ℕ
-wordLimit = 1024
+abbrev pub word_limit : ℕ
+word_limit = 1024
 
 -- the most bytes that a code has
-abbrev pub codeRoom : ℕ
-codeRoom = 2 * wordLimit - 1
+abbrev pub code_room : ℕ
+code_room = 2 * word_limit - 1

@@ -1,7 +1,7 @@
 // What the documents fix once: the numbers of the refusals, how long a word and a code may be, which formats and editions are known, and
 // which a new book carries.
 ghost use Rattle.std.specs.Prelude.{◌≡◌};
-ghost use Rattle.terms.specs.Editions.{isSecond, editionOf};
+ghost use Rattle.terms.specs.Editions.{is_second, edition_of};
 
 // The refusals of documents 01 and 02 that a book, a join or a listing may show, by name.
 pub const TOO_LONG: u8 = 1;
@@ -50,7 +50,7 @@ pub enum Edition {
 
 impl Edition {
     pub fn is_second(self) -> bool
-        ensures { result ≡ isSecond self }
+        ensures { result ≡ is_second self }
     {
         match self {
             Edition::E1 => false,
@@ -61,7 +61,7 @@ impl Edition {
 
 // The edition of a known number.
 pub fn edition_of(number: u64) -> Edition
-    ensures { result ≡ editionOf number }
+    ensures { result ≡ edition_of number }
 {
     if number == 1 {
         Edition::E1

@@ -17,12 +17,12 @@ use Rattle.trimming.proofs.back.Reads as back
 use contract.Lifetimes.{Lfts}
 
 module _ (κs : Lfts 1) (a : Dens κs trimmed-kinds.ps) (x y : (res_t trimmed-kinds.r κs).Denot) (s t : AtExit (ended_of 1 trimmed-kinds.ps trimmed-kinds.r) κs) where
-  pub one-trimmed : trimmed.Post κs a x s → trimmed.Post κs a y t → x.now ≡ y.now
-  one-trimmed p q = p ∙ sym q
+  pub one_trimmed : trimmed.Post κs a x s → trimmed.Post κs a y t → x.now ≡ y.now
+  one_trimmed p q = p ∙ sym q
 
 -- a place is told by how much is left behind it, or by how much stands before it
-one-start : (w : List ℕ) (x y : ℕ) → x ≤ length w → y ≤ length w → drop x w ≡ drop y w → x ≡ y
-one-start w x y h k e =
+one_start : (w : List ℕ) (x y : ℕ) → x ≤ length w → y ≤ length w → drop x w ≡ drop y w → x ≡ y
+one_start w x y h k e =
     let d : length w - x ≡ length w - y = sym (length-drop x w) ∙ ap length e ∙ length-drop y w in
     omega (arith, d)
 
@@ -31,8 +31,8 @@ one_end w x y h k e =
     let d : min x (length w) ≡ min y (length w) = sym (length-take x w) ∙ ap length e ∙ length-take y w in
     omega (arith, d)
 
-pub one-front : OneResult front-kinds.ps front-kinds.r front.Post
-one-front κs a x y s t p q = one-start _ x y p.0 q.0 (p.1 ∙ sym q.1)
+pub one_front : OneResult front-kinds.ps front-kinds.r front.Post
+one_front κs a x y s t p q = one_start _ x y p.0 q.0 (p.1 ∙ sym q.1)
 
-pub one-back : OneResult back-kinds.ps back-kinds.r back.Post
-one-back κs a x y s t p q = one_end _ x y p.0 q.0 (p.1 ∙ sym q.1)
+pub one_back : OneResult back-kinds.ps back-kinds.r back.Post
+one_back κs a x y s t p q = one_end _ x y p.0 q.0 (p.1 ∙ sym q.1)

@@ -1,6 +1,6 @@
 // The part of a word between its blanks.
 ghost use Rattle.std.specs.Prelude.{◌≡◌, ◌≤◌, length, take, drop};
-ghost use Rattle.trimming.specs.Trim.{blank, trimStart, trimEnd, trimmed};
+ghost use Rattle.trimming.specs.Trim.{blank, trim_start, trim_end, trimmed};
 
 // Bytes 9 to 13 and 32.
 fn is_blank(b: u8) -> bool
@@ -16,7 +16,7 @@ fn is_blank(b: u8) -> bool
 // Where the trimmed word starts.
 pub fn front(w: &[u8]) -> usize
     ensures within { result ≤ length w.now }
-    ensures start { drop result w.now ≡ trimStart w.now }
+    ensures start { drop result w.now ≡ trim_start w.now }
 {
     let mut i = 0;
     while i < w.len() {
@@ -31,7 +31,7 @@ pub fn front(w: &[u8]) -> usize
 // Where it ends.
 pub fn back(w: &[u8]) -> usize
     ensures within { result ≤ length w.now }
-    ensures end { take result w.now ≡ trimEnd w.now }
+    ensures end { take result w.now ≡ trim_end w.now }
 {
     let mut e = w.len();
     while 0 < e {

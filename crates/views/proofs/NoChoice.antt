@@ -16,23 +16,23 @@ use Rattle.views.proofs.front.Reads as front
 use Rattle.views.proofs.rear.Kinds as rear-kinds
 use Rattle.views.proofs.rear.Reads as rear
 
-pub one-text-ahead : OneResult text-ahead-kinds.ps text-ahead-kinds.r text-ahead.Post
-one-text-ahead κs a x y s t p q = p ∙ sym q
+pub one_text_ahead : OneResult text-ahead-kinds.ps text-ahead-kinds.r text-ahead.Post
+one_text_ahead κs a x y s t p q = p ∙ sym q
 
-pub one-text-behind : OneResult text-behind-kinds.ps text-behind-kinds.r text-behind.Post
-one-text-behind κs a x y s t p q = p ∙ sym q
+pub one_text_behind : OneResult text-behind-kinds.ps text-behind-kinds.r text-behind.Post
+one_text_behind κs a x y s t p q = p ∙ sym q
 
-pub one-text-front : OneResult text-front-kinds.ps text-front-kinds.r text-front.Post
-one-text-front κs a x y s t p q = p ∙ sym q
+pub one_text_front : OneResult text-front-kinds.ps text-front-kinds.r text-front.Post
+one_text_front κs a x y s t p q = p ∙ sym q
 
-pub one-ahead : OneResult ahead-kinds.ps ahead-kinds.r ahead.Post
-one-ahead κs a x y s t p q = p ∙ sym q
+pub one_ahead : OneResult ahead-kinds.ps ahead-kinds.r ahead.Post
+one_ahead κs a x y s t p q = p ∙ sym q
 
-pub one-behind : OneResult behind-kinds.ps behind-kinds.r behind.Post
-one-behind κs a x y s t p q = p ∙ sym q
+pub one_behind : OneResult behind-kinds.ps behind-kinds.r behind.Post
+one_behind κs a x y s t p q = p ∙ sym q
 
-pub one-front : OneResult front-kinds.ps front-kinds.r front.Post
-one-front κs a x y s t p q = p ∙ sym q
+pub one_front : OneResult front-kinds.ps front-kinds.r front.Post
+one_front κs a x y s t p q = p ∙ sym q
 
-pub one-rear : OneResult rear-kinds.ps rear-kinds.r rear.Post
-one-rear κs a x y s t p q = p ∙ sym q
+pub one_rear : OneResult rear-kinds.ps rear-kinds.r rear.Post
+one_rear κs a x y s t p q = p ∙ sym q

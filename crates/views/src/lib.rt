@@ -2,12 +2,12 @@
 // 0 or past the end is no match.
 ghost use Rattle.std.specs.Prelude.{◌≡◌, ℕ, ◌+◌};
 ghost use Rattle.byte.specs.Text.{upper};
-ghost use Rattle.windows.specs.Window.{sees, textAt, texts};
-ghost use Rattle.spots.specs.Spot.{stepBack, tellBack, fromRear};
+ghost use Rattle.windows.specs.Window.{sees, text_at, texts};
+ghost use Rattle.spots.specs.Spot.{step_back, tell_back, from_rear};
 
 // The text's number of the window `k` bytes ahead of `at`.
 pub fn text_ahead(w: &[u8], at: usize, k: usize, width: usize, list: &[u8]) -> usize
-    ensures { result ≡ textAt (upper w.now) (at + k) width (texts width list.now) }
+    ensures { result ≡ text_at (upper w.now) (at + k) width (texts width list.now) }
 {
     if w.len() < at {
         return 0;
@@ -20,7 +20,7 @@ pub fn text_ahead(w: &[u8], at: usize, k: usize, width: usize, list: &[u8]) -> u
 
 // The text's number of the window `k` bytes back from `at`.
 pub fn text_behind(w: &[u8], at: usize, k: usize, width: usize, list: &[u8]) -> usize
-    ensures { result ≡ tellBack at k (λ (q : ℕ). textAt (upper w.now) q width (texts width list.now)) }
+    ensures { result ≡ tell_back at k (λ (q : ℕ). text_at (upper w.now) q width (texts width list.now)) }
 {
     if at < k {
         return 0;
@@ -30,7 +30,7 @@ pub fn text_behind(w: &[u8], at: usize, k: usize, width: usize, list: &[u8]) -> 
 
 // The text's number of the window at the front of the word.
 pub fn text_front(w: &[u8], width: usize, list: &[u8]) -> usize
-    ensures { result ≡ textAt (upper w.now) 0 width (texts width list.now) }
+    ensures { result ≡ text_at (upper w.now) 0 width (texts width list.now) }
 {
     windows::text_at(w, 0, width, list)
 }
@@ -44,7 +44,7 @@ pub fn ahead(w: &[u8], at: usize, k: usize, width: usize, list: &[u8]) -> bool
 
 // The window `k` bytes back from `at` is.
 pub fn behind(w: &[u8], at: usize, k: usize, width: usize, list: &[u8]) -> bool
-    ensures { result ≡ stepBack at k (λ (q : ℕ). sees (upper w.now) q width (texts width list.now)) }
+    ensures { result ≡ step_back at k (λ (q : ℕ). sees (upper w.now) q width (texts width list.now)) }
 {
     text_behind(w, at, k, width, list) != 0
 }
@@ -58,7 +58,7 @@ pub fn front(w: &[u8], width: usize, list: &[u8]) -> bool
 
 // The window at the end of the word is.
 pub fn rear(w: &[u8], width: usize, list: &[u8]) -> bool
-    ensures { result ≡ fromRear (upper w.now) width (λ (q : ℕ). sees (upper w.now) q width (texts width list.now)) }
+    ensures { result ≡ from_rear (upper w.now) width (λ (q : ℕ). sees (upper w.now) q width (texts width list.now)) }
 {
     behind(w, w.len(), width, width, list)
 }

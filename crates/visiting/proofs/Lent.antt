@@ -35,21 +35,21 @@ R = T.the_row
 abbrev pub S : RattleType
 S = VT.the_row
 
-abbrev pub tally-val : Tally → Val
-tally-val h = vstruct (vcons (vint w64 h.primary) (vcons (vint w64 h.alternate) (vcons (vint w64 h.visits) vnil)))
+abbrev pub tally_val : Tally → Val
+tally_val h = vstruct (vcons (vint w64 h.primary) (vcons (vint w64 h.alternate) (vcons (vint w64 h.visits) vnil)))
 
-abbrev pub visit-val : Visit → Val
-visit-val v = LL.val VT.the_type VT'.the_laws v
+abbrev pub visit_val : Visit → Val
+visit_val v = LL.val VT.the_type VT'.the_laws v
 
-abbrev pub word-val : Bor (List ℕ) → Val
-word-val s = slice_val s.ref_ptr (length s.now)
+abbrev pub word_val : Bor (List ℕ) → Val
+word_val s = slice_val s.ref_ptr (length s.now)
 
 -- what a rule is asked: a word, a place, the mark and the edition
 abbrev pub Asked : Type 0
 Asked = Bor (List ℕ) × (ℕ × (Bool × (Bool × Unit {0})))
 
-abbrev pub asked-vals : Asked → List Val × (List Val × (List Val × (List Val × Unit {0})))
-asked-vals a = (word-val a.0 ∷ [], (vint w64 a.1.0 ∷ [], (vbool a.1.1.0 ∷ [], (vbool a.1.1.1.0 ∷ [], tt))))
+abbrev pub asked_vals : Asked → List Val × (List Val × (List Val × (List Val × Unit {0})))
+asked_vals a = (word_val a.0 ∷ [], (vint w64 a.1.0 ∷ [], (vbool a.1.1.0 ∷ [], (vbool a.1.1.1.0 ∷ [], tt))))
 
 -- the visit that the definition gives
 abbrev pub given : Asked → Visit
@@ -57,17 +57,17 @@ given a = visit (upper a.0.now) a.1.0 (mode a.1.1.0 a.1.1.1.0)
 
 module _ (ℓ : Lifetime) (κ : Lft) (a : Asked) where
   abbrev pub Word : Fml
-  Word = (ShrSlice ℓ κ u8).own_val a.0 (word-val a.0 ∷ [])
+  Word = (ShrSlice ℓ κ u8).own_val a.0 (word_val a.0 ∷ [])
 
   abbrev pub Asks : Fml
-  Asks = owns (ShrSlice ℓ κ u8 ∷ usize ∷ bool ∷ bool ∷ []) a (asked-vals a)
+  Asks = owns (ShrSlice ℓ κ u8 ∷ usize ∷ bool ∷ bool ∷ []) a (asked_vals a)
 
   abbrev pub Limited : ℕ → Fml
-  Limited n = owns (usize ∷ ShrSlice ℓ κ u8 ∷ usize ∷ bool ∷ bool ∷ []) (n, a) (vint w64 n ∷ [], asked-vals a)
+  Limited n = owns (usize ∷ ShrSlice ℓ κ u8 ∷ usize ∷ bool ∷ bool ∷ []) (n, a) (vint w64 n ∷ [], asked_vals a)
 
 module _ {M : Type 1} {𝓤 : Ura M} (𝓛 : Logic 𝓤) (ℓ : Lifetime) (κ : Lft) (a : Asked) where
   pub twice : ent 𝓤 (sem 𝓛 (Word ℓ κ a)) (sep 𝓤 (sem 𝓛 (Word ℓ κ a)) (sem 𝓛 (Word ℓ κ a)))
-  twice = (shr_slice_copy 𝓛 ℓ κ u8).twice a.0 (word-val a.0 ∷ [])
+  twice = (shr_slice_copy 𝓛 ℓ κ u8).twice a.0 (word_val a.0 ∷ [])
 
   -- all but the word is had for nothing
   pub asks : a.1.0 < 2 ^ 64 → ent 𝓤 (sem 𝓛 (Word ℓ κ a)) (sem 𝓛 (Asks ℓ κ a))

@@ -9,5 +9,5 @@ use contract.Lifetimes.{Lfts}
 
 -- the word, the edition, the limit and the two buffers: the buffers at exit are the fourth and the fifth
 module _ (κs : Lfts 3) (a : Dens κs walk-kinds.ps) (x y : (res_t walk-kinds.r κs).Denot) (s t : AtExit (ended_of 3 walk-kinds.ps walk-kinds.r) κs) where
-  pub one-walk : walk.Post κs a x s → walk.Post κs a y t → (x ≡ y) × ((s.1.1.1.0.now ≡ t.1.1.1.0.now) × (s.1.1.1.1.0.now ≡ t.1.1.1.1.0.now))
-  one-walk p q = (p.0 ∙ sym q.0, (p.1.0 ∙ sym q.1.0, p.1.1 ∙ sym q.1.1))
+  pub one_walk : walk.Post κs a x s → walk.Post κs a y t → (x ≡ y) × ((s.1.1.1.0.now ≡ t.1.1.1.0.now) × (s.1.1.1.1.0.now ≡ t.1.1.1.1.0.now))
+  one_walk p q = (p.0 ∙ sym q.0, (p.1.0 ∙ sym q.1.0, p.1.1 ∙ sym q.1.1))

@@ -17,11 +17,11 @@ abbrev pub joined : (ℕ → List ℕ) → List ℕ → List ℕ
 joined g [] = []
 joined g (p ∷ ps) = g p ++ joined g ps
 
-abbrev pub toPrimary : (ℕ → Visit) → ℕ → List ℕ
-toPrimary v p = bytes_of (v p).primary
+abbrev pub to_primary : (ℕ → Visit) → ℕ → List ℕ
+to_primary v p = bytes_of (v p).primary
 
-abbrev pub toAlternate : (ℕ → Visit) → ℕ → List ℕ
-toAlternate v p = bytes_of (v p).alternate
+abbrev pub to_alternate : (ℕ → Visit) → ℕ → List ℕ
+to_alternate v p = bytes_of (v p).alternate
 
 -- what a walk gives
 pub record Coded : Type 0 where

@@ -3,17 +3,17 @@
 // lends them the tally.
 ghost use Rattle.std.specs.Prelude.{◌≡◌, ◌≤◌, length};
 ghost use Rattle.walk.specs.Walk.{filled, tally_of};
-ghost use Rattle.walk.specs.Word.{limitedOf};
+ghost use Rattle.walk.specs.Word.{limited_of};
 
 use tally::Tally;
 use terms::Edition;
 
 // Walks the word under an edition and writes both codes under the limit; each buffer has room for its code.
 pub fn walk(w: &[u8], edition: Edition, limit: usize, p: &mut [u8], a: &mut [u8]) -> Tally
-    requires { (length (limitedOf edition limit w.now).primary ≤ length p.old) × (length (limitedOf edition limit w.now).alternate ≤ length a.old) }
-    ensures tally { result ≡ tally_of (limitedOf edition limit w.now) }
-    ensures primary { p.new ≡ filled (limitedOf edition limit w.now).primary p.old }
-    ensures alternate { a.new ≡ filled (limitedOf edition limit w.now).alternate a.old }
+    requires { (length (limited_of edition limit w.now).primary ≤ length p.old) × (length (limited_of edition limit w.now).alternate ≤ length a.old) }
+    ensures tally { result ≡ tally_of (limited_of edition limit w.now) }
+    ensures primary { p.new ≡ filled (limited_of edition limit w.now).primary p.old }
+    ensures alternate { a.new ≡ filled (limited_of edition limit w.now).alternate a.old }
 {
     let slavo = word::is_slavo_germanic(w);
     let second = edition.is_second();

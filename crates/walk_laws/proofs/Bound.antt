@@ -6,15 +6,15 @@ use native.Mathlib.Omega.{arith}
 use native.Mathlib.Nat.{sub-zero}
 use lib.ListN.{length, length-append}
 use Rattle.byte.specs.Text.{upper}
-use Rattle.byte.proofs.Case.{length-upper}
+use Rattle.byte.proofs.Case.{length_upper}
 use Rattle.terms.specs.declared.Edition.{Edition}
 use Rattle.outcome.specs.declared.Visit.{Visit}
 use Rattle.rules.specs.Kept.{AtFront}
-use Rattle.rules.proofs.Bound.{visit-short}
-use Rattle.rules.proofs.Front.{visit-front}
+use Rattle.rules.proofs.Bound.{visit_short}
+use Rattle.rules.proofs.Front.{visit_front}
 use Rattle.walk_laws.specs.Keeps.{Keeps}
-use Rattle.walk.specs.Walk.{places, joined, toPrimary, toAlternate}
-use Rattle.walk.specs.Word.{ruleOf, visitsOf, whole_of}
+use Rattle.walk.specs.Walk.{places, joined, to_primary, to_alternate}
+use Rattle.walk.specs.Word.{rule_of, visits_of, whole_of}
 use Rattle.word.specs.Start.{start_of}
 
 module _ (v : ℕ → Visit) (g : ℕ → List ℕ) (two : (p : ℕ) → length (g p) ≤ 2) where
@@ -37,24 +37,24 @@ module _ (v : ℕ → Visit) (g : ℕ → List ℕ) (two : (p : ℕ) → length 
 
 -- any rule that keeps the laws, from any start
 module _ (v : ℕ → Visit) (start t : ℕ) (k : Keeps t v) where
-  pub any-primary-bound : length (joined (toPrimary v) (places v start 0 (t - start))) ≤ 2 * t - 1
-  any-primary-bound = bounded v (toPrimary v) (λ p. (k.short p).primary) start t k.front.primary
+  pub any_primary_bound : length (joined (to_primary v) (places v start 0 (t - start))) ≤ 2 * t - 1
+  any_primary_bound = bounded v (to_primary v) (λ p. (k.short p).primary) start t k.front.primary
 
-  pub any-alternate-bound : length (joined (toAlternate v) (places v start 0 (t - start))) ≤ 2 * t - 1
-  any-alternate-bound = bounded v (toAlternate v) (λ p. (k.short p).alternate) start t k.front.alternate
+  pub any_alternate_bound : length (joined (to_alternate v) (places v start 0 (t - start))) ≤ 2 * t - 1
+  any_alternate_bound = bounded v (to_alternate v) (λ p. (k.short p).alternate) start t k.front.alternate
 
 -- the letter rules keep them, in each edition
-pub rule-keeps : (ed : Edition) (w : List ℕ) → Keeps (length w) (ruleOf ed w)
-rule-keeps ed w =
+pub rule_keeps : (ed : Edition) (w : List ℕ) → Keeps (length w) (rule_of ed w)
+rule_keeps ed w =
     record {
-      short = λ p. visit-short (upper w) p _;
-      front = subst (λ (n : ℕ). AtFront n (ruleOf ed w 0)) (length-upper w) (visit-front (upper w) _);
+      short = λ p. visit_short (upper w) p _;
+      front = subst (λ (n : ℕ). AtFront n (rule_of ed w 0)) (length_upper w) (visit_front (upper w) _);
     }
 
-pub primary-bound : (ed : Edition) (w : List ℕ) → length (whole_of ed w).primary ≤ 2 * length w - 1
-unfolding visitsOf
-primary-bound ed w = any-primary-bound (ruleOf ed w) (start_of w) (length w) (rule-keeps ed w)
+pub primary_bound : (ed : Edition) (w : List ℕ) → length (whole_of ed w).primary ≤ 2 * length w - 1
+unfolding visits_of
+primary_bound ed w = any_primary_bound (rule_of ed w) (start_of w) (length w) (rule_keeps ed w)
 
-pub alternate-bound : (ed : Edition) (w : List ℕ) → length (whole_of ed w).alternate ≤ 2 * length w - 1
-unfolding visitsOf
-alternate-bound ed w = any-alternate-bound (ruleOf ed w) (start_of w) (length w) (rule-keeps ed w)
+pub alternate_bound : (ed : Edition) (w : List ℕ) → length (whole_of ed w).alternate ≤ 2 * length w - 1
+unfolding visits_of
+alternate_bound ed w = any_alternate_bound (rule_of ed w) (start_of w) (length w) (rule_keeps ed w)

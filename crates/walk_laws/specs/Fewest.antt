@@ -1,5 +1,5 @@
 -- How many visits a limit leaves, said without a walk (demand 3): the fewest after which both unlimited codes have n bytes, or
--- all. There is only one such number (`fewest-one` in proofs/Limit.antt).
+-- all. There is only one such number (`fewest_one` in proofs/Limit.antt).
 use Rattle.std.specs.Prelude.{ℕ, ◌≤◌, ◌<◌, List, length, take}
 use Rattle.walk.specs.Walk.{joined}
 
@@ -10,5 +10,5 @@ pub record Full (g h : ℕ → List ℕ) (ps : List ℕ) (n k : ℕ) : Type 0 wh
 
 pub record Fewest (g h : ℕ → List ℕ) (ps : List ℕ) (n k : ℕ) : Type 0 where
   pub within : k ≤ length ps
-  pub none-fewer : (j : ℕ) → j < k → Full g h ps n j → ⊥
-  pub full-or-all : k < length ps → Full g h ps n k
+  pub none_fewer : (j : ℕ) → j < k → Full g h ps n j → ⊥
+  pub full_or_all : k < length ps → Full g h ps n k

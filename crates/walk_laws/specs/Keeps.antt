@@ -1,5 +1,5 @@
 -- What the walk asks of a rule, any rule, for the bound on its codes (document 01, demand 3): short additions, and at place 0 of a
--- word of `t` bytes a second byte only where a byte that stands there is passed over. The letter rules keep it (`rule-keeps` in
+-- word of `t` bytes a second byte only where a byte that stands there is passed over. The letter rules keep it (`rule_keeps` in
 -- proofs/Bound.antt).
 use Rattle.std.specs.Prelude.{ℕ}
 use Rattle.outcome.specs.declared.Visit.{Visit}

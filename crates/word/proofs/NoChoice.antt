@@ -8,11 +8,11 @@ use Rattle.word.proofs.is_slavo_germanic.Reads as is-slavo-germanic
 use Rattle.word.proofs.start_of.Kinds as start-of-kinds
 use Rattle.word.proofs.start_of.Reads as start_of_lem
 
-pub one-one-if : OneResult one-if-kinds.ps one-if-kinds.r one-if.Post
-one-one-if κs a x y s t p q = p ∙ sym q
+pub one_one_if : OneResult one-if-kinds.ps one-if-kinds.r one-if.Post
+one_one_if κs a x y s t p q = p ∙ sym q
 
-pub one-is-slavo-germanic : OneResult is-slavo-germanic-kinds.ps is-slavo-germanic-kinds.r is-slavo-germanic.Post
-one-is-slavo-germanic κs a x y s t p q = p ∙ sym q
+pub one_is_slavo_germanic : OneResult is-slavo-germanic-kinds.ps is-slavo-germanic-kinds.r is-slavo-germanic.Post
+one_is_slavo_germanic κs a x y s t p q = p ∙ sym q
 
-pub one-start-of : OneResult start-of-kinds.ps start-of-kinds.r start_of_lem.Post
-one-start-of κs a x y s t p q = p ∙ sym q
+pub one_start_of : OneResult start-of-kinds.ps start-of-kinds.r start_of_lem.Post
+one_start_of κs a x y s t p q = p ∙ sym q

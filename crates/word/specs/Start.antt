@@ -4,8 +4,8 @@ use Rattle.byte.specs.Text.{bytes, upper}
 use Rattle.windows.specs.Window.{sees}
 
 -- the first letter of a word that begins so is silent, and the walk starts behind it
-abbrev pub silentStarts : List (List ℕ)
-silentStarts = map bytes ("GN" ∷ "KN" ∷ "PN" ∷ "WR" ∷ "PS" ∷ [])
+abbrev pub silent_starts : List (List ℕ)
+silent_starts = map bytes ("GN" ∷ "KN" ∷ "PN" ∷ "WR" ∷ "PS" ∷ [])
 
 unfoldable pub start_of : List ℕ → ℕ
-start_of w = cond (sees (upper w) 0 2 silentStarts) 1 0
+start_of w = cond (sees (upper w) 0 2 silent_starts) 1 0

@@ -1,7 +1,7 @@
 // What a trimmed word tells before it is walked: the Slavo-Germanic mark, and where the first visit is.
 ghost use Rattle.std.specs.Prelude.{◌≡◌, cond};
 ghost use Rattle.byte.specs.Text.{upper};
-ghost use Rattle.word.specs.Mark.{slavoGermanic};
+ghost use Rattle.word.specs.Mark.{slavo_germanic};
 ghost use Rattle.word.specs.Start.{start_of};
 
 // 1 where the test holds, else 0.
@@ -21,7 +21,7 @@ pub fn start_of(w: &[u8]) -> usize
 // Whether the word has W, K, CZ or WITZ; the last begins with W and is not asked for. One read a byte and no early exit, so that a
 // compiler can do many bytes at a time; bit 32 makes a letter small, and no other byte a letter.
 pub fn is_slavo_germanic(w: &[u8]) -> bool
-    ensures { result ≡ slavoGermanic (upper w.now) }
+    ensures { result ≡ slavo_germanic (upper w.now) }
 {
     let mut found = false;
     let mut last = 0;

@@ -7,20 +7,20 @@ use mathlib.Core.List.{List, [], ◌∷◌, map}
 use Rattle.byte.specs.Text.{bytes, up, upper}
 use Rattle.basics.specs.Same.{same}
 use Rattle.windows.specs.Window.{is_at, sees}
-use Rattle.spots.specs.Spot.{byte_at, vowelAt, endsAfter, isLong}
+use Rattle.spots.specs.Spot.{byte_at, vowel_at, ends_after, is_long}
 use Rattle.byte.specs.Vowel.{vowel}
 use Rattle.rules.specs.Cond.{holds}
 use Rattle.rules.specs.Case.{first}
-use Rattle.rules.specs.Plain.{swallows, casesVowel, casesRest}
-use Rattle.rules.specs.CasesC.{casesC}
-use Rattle.rules.specs.CasesDL.{casesD, casesH, casesJ, casesL}
-use Rattle.rules.specs.CasesG.{casesG}
-use Rattle.rules.specs.CasesMZ.{casesM, casesP, casesR, casesT, casesW, casesX, casesZ}
-use Rattle.rules.specs.CasesS.{casesS}
+use Rattle.rules.specs.Plain.{swallows, cases_vowel, cases_rest}
+use Rattle.rules.specs.CasesC.{cases_c}
+use Rattle.rules.specs.CasesDL.{cases_d, cases_h, cases_j, cases_l}
+use Rattle.rules.specs.CasesG.{cases_g}
+use Rattle.rules.specs.CasesMZ.{cases_m, cases_p, cases_r, cases_t, cases_w, cases_x, cases_z}
+use Rattle.rules.specs.CasesS.{cases_s}
 use Rattle.rules.specs.Table.{table, cases_in, visit}
-use Rattle.word.specs.Mark.{beginsOne, hasOne, slavoGermanic}
+use Rattle.word.specs.Mark.{begins_one, has_one, slavo_germanic}
 use Rattle.word.specs.Start.{start_of}
-use Rattle.walk.specs.Word.{visitsOf}
+use Rattle.walk.specs.Word.{visits_of}
 use Rattle.terms.specs.declared.Edition.{Edition}
 use Rattle.terms.specs.declared.Edition.TheVariants.{E1, E2}
 use Rattle.terms.specs.declared.Limit.{Limit}
@@ -28,7 +28,7 @@ use Rattle.terms.specs.declared.Limit.TheVariants.{Whole, At}
 use Rattle.answers.specs.declared.Answer.{Answer}
 use Rattle.answers.specs.declared.Answer.TheVariants.{PrimaryShort, AlternateShort, Coded}
 use Rattle.trimming.specs.Trim.{trimmed}
-use Rattle.encoder.specs.Encode.{primaryOf, alternateOf, visitsUnder, answer_of}
+use Rattle.encoder.specs.Encode.{primary_of, alternate_of, visits_under, answer_of}
 
 pub record Known : Type 0 where
   pub word : String
@@ -49,9 +49,9 @@ pub record Key : Type 0 where
 unfoldable pub defined : Edition → Known → Key
 defined ed k =
     record {
-      primary = primaryOf ed k.limit (trimmed (bytes k.word));
-      alternate = alternateOf ed k.limit (trimmed (bytes k.word));
-      visits = visitsUnder ed k.limit (trimmed (bytes k.word));
+      primary = primary_of ed k.limit (trimmed (bytes k.word));
+      alternate = alternate_of ed k.limit (trimmed (bytes k.word));
+      visits = visits_under ed k.limit (trimmed (bytes k.word));
     }
 
 unfoldable pub given : Known → Key
@@ -82,13 +82,13 @@ names = known "Van Chi" Whole "FNX" "FNK" 6 ∷ others
 unfoldable pub names2 : List Known
 names2 = known "Van Chi" Whole "FNK" "FNK" 6 ∷ others
 
-pub names-known : map (defined E1) names ≡ map given names
-unfolding defined given names others primaryOf alternateOf trimmed visitsOf start_of beginsOne hasOne slavoGermanic visit first holds table cases_in swallows casesC casesD casesG casesH casesJ casesL casesM casesP casesR casesS casesT casesW casesX casesZ casesVowel casesRest up upper is_at sees byte_at vowel vowelAt endsAfter isLong same
-names-known = refl
+pub names_known : map (defined E1) names ≡ map given names
+unfolding defined given names others primary_of alternate_of trimmed visits_of start_of begins_one has_one slavo_germanic visit first holds table cases_in swallows cases_c cases_d cases_g cases_h cases_j cases_l cases_m cases_p cases_r cases_s cases_t cases_w cases_x cases_z cases_vowel cases_rest up upper is_at sees byte_at vowel vowel_at ends_after is_long same
+names_known = refl
 
-pub names2-known : map (defined E2) names2 ≡ map given names2
-unfolding defined given names2 others primaryOf alternateOf trimmed visitsOf start_of beginsOne hasOne slavoGermanic visit first holds table cases_in swallows casesC casesD casesG casesH casesJ casesL casesM casesP casesR casesS casesT casesW casesX casesZ casesVowel casesRest up upper is_at sees byte_at vowel vowelAt endsAfter isLong same
-names2-known = refl
+pub names2_known : map (defined E2) names2 ≡ map given names2
+unfolding defined given names2 others primary_of alternate_of trimmed visits_of start_of begins_one has_one slavo_germanic visit first holds table cases_in swallows cases_c cases_d cases_g cases_h cases_j cases_l cases_m cases_p cases_r cases_s cases_t cases_w cases_x cases_z cases_vowel cases_rest up upper is_at sees byte_at vowel vowel_at ends_after is_long same
+names2_known = refl
 
 -- a full primary code alone does not end the walk; both codes full end it; the last J's space counts; blanks go and 28 stays
 unfoldable pub edges : List Known
@@ -101,14 +101,14 @@ edges =
     ∷ known "\u{1c}jumped" (At 4) "JMPT" "JMPT" 7
     ∷ []
 
-pub edges-known : map (defined E1) edges ≡ map given edges
-unfolding defined given edges primaryOf alternateOf trimmed visitsOf start_of beginsOne hasOne slavoGermanic visit first holds table cases_in swallows casesC casesD casesG casesH casesJ casesL casesM casesP casesR casesS casesT casesW casesX casesZ casesVowel casesRest up upper is_at sees byte_at vowel vowelAt endsAfter isLong same
-edges-known = refl
+pub edges_known : map (defined E1) edges ≡ map given edges
+unfolding defined given edges primary_of alternate_of trimmed visits_of start_of begins_one has_one slavo_germanic visit first holds table cases_in swallows cases_c cases_d cases_g cases_h cases_j cases_l cases_m cases_p cases_r cases_s cases_t cases_w cases_x cases_z cases_vowel cases_rest up upper is_at sees byte_at vowel vowel_at ends_after is_long same
+edges_known = refl
 
 -- KXZ with no limit takes buffers of 5 and refuses 4, also the primary one, though its code has 4
 unfoldable pub kxz : ℕ → ℕ → Answer
 kxz m n = answer_of E1 Whole (bytes "KXZ") m n
 
-pub kxz-room : (kxz 5 5 ∷ kxz 4 5 ∷ kxz 5 4 ∷ []) ≡ (Coded 4 5 3 ∷ PrimaryShort ∷ AlternateShort ∷ [])
-unfolding kxz primaryOf alternateOf trimmed visitsOf start_of beginsOne hasOne slavoGermanic visit first holds table cases_in swallows casesC casesD casesG casesH casesJ casesL casesM casesP casesR casesS casesT casesW casesX casesZ casesVowel casesRest up upper is_at sees byte_at vowel vowelAt endsAfter isLong same
-kxz-room = refl
+pub kxz_room : (kxz 5 5 ∷ kxz 4 5 ∷ kxz 5 4 ∷ []) ≡ (Coded 4 5 3 ∷ PrimaryShort ∷ AlternateShort ∷ [])
+unfolding kxz primary_of alternate_of trimmed visits_of start_of begins_one has_one slavo_germanic visit first holds table cases_in swallows cases_c cases_d cases_g cases_h cases_j cases_l cases_m cases_p cases_r cases_s cases_t cases_w cases_x cases_z cases_vowel cases_rest up upper is_at sees byte_at vowel vowel_at ends_after is_long same
+kxz_room = refl

@@ -4,7 +4,7 @@ use mathlib.Core.Path.{refl, ◌∙◌}
 use native.Mathlib.Omega.{arith}
 use borrow.Author.Rules.{rules}
 use lib.ListN.{length-set}
-use Rattle.additions.proofs.Clip.{clip-none, clip-some, together, clip-empty}
+use Rattle.additions.proofs.Clip.{clip_none, clip_some, together, clip_empty}
 use Rattle.additions.proofs.put.Statement.{statement}
 use Rattle.additions.proofs.put.Tie as tie
 
@@ -24,7 +24,7 @@ slice-write-buf : tie.Need-slice-write-buf
 slice-write-buf c =
     let s = c.before.before.before.before.before in
     let g = c.before.before.add2.given in
-    let h = rw (clip-some s.args.limit s.args.len g.0.0 (g.0.1.0 ∷ []) c.if1.true) at (rw g.1 at s.requires) in
+    let h = rw (clip_some s.args.limit s.args.len g.0.0 (g.0.1.0 ∷ []) c.if1.true) at (rw g.1 at s.requires) in
     omega arith
 
 add-put-byte : tie.Need-overflow-add-put-byte
@@ -34,11 +34,11 @@ put-byte-requires-2 : tie.Need-put-byte-requires-2
 put-byte-requires-2 c κs =
     let s = c.before.before.before.before.before.before in
     let g = c.before.before.before.add2.given in
-    let h = rw (clip-some s.args.limit s.args.len g.0.0 (g.0.1.0 ∷ []) c.before.if1.true) at (rw g.1 at s.requires) in
+    let h = rw (clip_some s.args.limit s.args.len g.0.0 (g.0.1.0 ∷ []) c.before.if1.true) at (rw g.1 at s.requires) in
     omega (arith, length-set s.args.buf.now s.args.len g.0.0)
 
 returns : tie.Need-returns
-returns c = rw c.enum_told.given.1 (clip-empty c.before.before.before.args.limit c.before.before.before.args.len c.before.before.before.args.buf.now)
+returns c = rw c.enum_told.given.1 (clip_empty c.before.before.before.args.limit c.before.before.before.args.len c.before.before.before.args.buf.now)
 
 same_length : tie.Need-same-length
 same_length c = search rules
@@ -58,7 +58,7 @@ returns-3 c =
     (c.before.before.put-byte2.ensures ∙ together s.args.limit s.args.len g.0.0 g.0.1.0 s.args.buf.now t.if1.true)
 
 returns-4 : tie.Need-returns-4
-returns-4 c = rw (c.before.before.add2.given.1, clip-none _ _ _ c.if1.false) refl
+returns-4 c = rw (c.before.before.add2.given.1, clip_none _ _ _ c.if1.false) refl
 
 pub put_spec : {M : Type 1} → statement M
 put_spec =

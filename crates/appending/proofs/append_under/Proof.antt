@@ -6,12 +6,12 @@ use borrow.Author.Rules.{rules}
 use lib.Dec.{leb}
 use lib.ListN.{length}
 use Rattle.answers.specs.Answers.{number_of}
-use Rattle.demands.proofs.Room.{never-three, never-four}
-use Rattle.keying.specs.Keyed.{newBytes, newFault}
-use Rattle.placing.specs.Placing.{floorWhere}
-use Rattle.putting.proofs.Laid.{placed-fault}
-use Rattle.keying.proofs.Named.{codes-fit, name-too-long, name-not-ascii}
-use Rattle.appending.proofs.Ends.{coded-placed}
+use Rattle.demands.proofs.Room.{never_three, never_four}
+use Rattle.keying.specs.Keyed.{new_bytes, new_fault}
+use Rattle.placing.specs.Placing.{floor_where}
+use Rattle.putting.proofs.Laid.{placed_fault}
+use Rattle.keying.proofs.Named.{codes_fit, name_too_long, name_not_ascii}
+use Rattle.appending.proofs.Ends.{coded_placed}
 use Rattle.appending.proofs.append_under.Statement.{statement}
 use Rattle.appending.proofs.append_under.Tie as tie
 
@@ -39,7 +39,7 @@ append-under-spec =
     let e = p.before.before.before.before in
     let n = e.before.before.before in
     let s = n.before.before.before.before.before.before in
-    let f = codes-fit s.args.header n.in-edition.ensures n.before.before.edition-of.ensures n.before.limit-of.ensures e.encode.ensures _ _ _ p.p.given.1 k.chosen.ensures c.chosen2.ensures in
+    let f = codes_fit s.args.header n.in-edition.ensures n.before.before.edition-of.ensures n.before.limit-of.ensures e.encode.ensures _ _ _ p.p.given.1 k.chosen.ensures c.chosen2.ensures in
     (s.requires, f.0, f.1, f.2))
     (λ c. search rules)
     (λ c. search rules)
@@ -54,18 +54,18 @@ append-under-spec =
     let e = p.before.before.before.before in
     let n = e.before.before.before in
     let a = n.before.before.before.before.before.before.args in
-    coded-placed a.header n.in-edition.ensures n.before.before.edition-of.ensures n.before.limit-of.ensures e.encode.ensures _ _ _ p.p.given.1 k.chosen.ensures g.chosen2.ensures a.floor a.station a.room.now a.len _ _ d.append-coded.ensures)
+    coded_placed a.header n.in-edition.ensures n.before.before.edition-of.ensures n.before.limit-of.ensures e.encode.ensures _ _ _ p.p.given.1 k.chosen.ensures g.chosen2.ensures a.floor a.station a.room.now a.len _ _ d.append-coded.ensures)
     (λ c.
     let e = c.before.before.before.before in
     let a = e.before.before.before.before.before.before.before.before.before.args in
-    let w = newBytes a.header a.station a.name.now in
-    let f = floorWhere (leb (a.len + length w) (length a.room.now)) a.header.format a.floor in
-    placed-fault a.room.now a.len w 1 (newFault f a.station a.name.now) (name-too-long e.encode.ensures f a.station c.enum_told.given.1) (λ z. omega arith))
+    let w = new_bytes a.header a.station a.name.now in
+    let f = floor_where (leb (a.len + length w) (length a.room.now)) a.header.format a.floor in
+    placed_fault a.room.now a.len w 1 (new_fault f a.station a.name.now) (name_too_long e.encode.ensures f a.station c.enum_told.given.1) (λ z. omega arith))
     (λ c.
     let e = c.before.before.before.before in
     let a = e.before.before.before.before.before.before.before.before.before.args in
-    let w = newBytes a.header a.station a.name.now in
-    let f = floorWhere (leb (a.len + length w) (length a.room.now)) a.header.format a.floor in
-    placed-fault a.room.now a.len w 2 (newFault f a.station a.name.now) (name-not-ascii e.encode.ensures f a.station _ c.enum-told2.given.1) (λ z. omega arith))
-    (λ c. absurd (never-three c.before.before.before.before.encode.ensures (omega arith) (omega arith) (ap number_of c.enum-told3.given.1)))
-    (λ c. absurd (never-four c.before.before.before.before.encode.ensures (omega arith) (omega arith) (ap number_of c.enum-told4.given.1))))
+    let w = new_bytes a.header a.station a.name.now in
+    let f = floor_where (leb (a.len + length w) (length a.room.now)) a.header.format a.floor in
+    placed_fault a.room.now a.len w 2 (new_fault f a.station a.name.now) (name_not_ascii e.encode.ensures f a.station _ c.enum-told2.given.1) (λ z. omega arith))
+    (λ c. absurd (never_three c.before.before.before.before.encode.ensures (omega arith) (omega arith) (ap number_of c.enum-told3.given.1)))
+    (λ c. absurd (never_four c.before.before.before.before.encode.ensures (omega arith) (omega arith) (ap number_of c.enum-told4.given.1))))

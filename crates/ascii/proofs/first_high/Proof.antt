@@ -4,13 +4,13 @@ use mathlib.Core.Path.{◌≡◌, ap}
 use native.Mathlib.Omega.{arith}
 use borrow.Author.Rules.{rules}
 use lib.ListN.{length, drop, drop_of_length-le}
-use Rattle.ascii.proofs.High.{high-here, high-behind}
-use Rattle.ascii.specs.High.{firstHigh}
+use Rattle.ascii.proofs.High.{high_here, high_behind}
+use Rattle.ascii.specs.High.{first_high}
 use Rattle.ascii.proofs.first_high.Statement.{statement}
 use Rattle.ascii.proofs.first_high.Tie as tie
 
 abbrev invariant-loop : tie.invariant-loop
-invariant-loop w i₀ i = (i ≤ length w) × (i + firstHigh (drop i w) ≡ firstHigh w)
+invariant-loop w i₀ i = (i ≤ length w) × (i + first_high (drop i w) ≡ first_high w)
 
 abbrev decreases-loop : tie.decreases-loop
 decreases-loop w i₀ i = length w - i
@@ -24,7 +24,7 @@ shared-slice-read-if1 c = search rules
 returns : tie.Need-returns invariant-loop decreases-loop
 returns c =
     let h = c.before.before.before in
-    omega (arith, high-here h.before.args.w.now h.loop.i c.before.before.loop-test.true c.if1.true)
+    omega (arith, high_here h.before.args.w.now h.loop.i c.before.before.loop-test.true c.if1.true)
 
 add-i : tie.Need-overflow-add-i invariant-loop decreases-loop
 add-i c = search rules
@@ -35,10 +35,10 @@ loop-less c = search rules
 loop-again : tie.Need-loop-preserved invariant-loop decreases-loop
 loop-again c =
     let h = c.before.before.before in
-    omega (arith, high-behind h.before.args.w.now h.loop.i c.before.before.loop-test.true c.if1.false)
+    omega (arith, high_behind h.before.args.w.now h.loop.i c.before.before.loop-test.true c.if1.false)
 
 returns-2 : tie.Need-returns-2 invariant-loop decreases-loop
-returns-2 c = omega (arith, ap firstHigh (drop_of_length-le c.before.before.args.w.now c.loop-test.false))
+returns-2 c = omega (arith, ap first_high (drop_of_length-le c.before.before.args.w.now c.loop-test.false))
 
 pub first-high-spec : {M : Type 1} → statement M
 first-high-spec =

@@ -4,13 +4,13 @@ use mathlib.Core.Path.{◌≡◌, refl, sym, ap, ◌∙◌}
 use mathlib.Core.Bool.{not, ◌||◌}
 use borrow.Author.Rules.{rules}
 use lib.ListN.{length, drop}
-use Rattle.ascii.proofs.High.{high-joins, high-whole}
-use Rattle.ascii.specs.High.{anyHigh}
+use Rattle.ascii.proofs.High.{high_joins, high_whole}
+use Rattle.ascii.specs.High.{any_high}
 use Rattle.ascii.proofs.is_ascii.Statement.{statement}
 use Rattle.ascii.proofs.is_ascii.Tie as tie
 
 abbrev invariant-loop : tie.invariant-loop
-invariant-loop w high₀ i₀ high i = (high || anyHigh (drop i w)) ≡ anyHigh w
+invariant-loop w high₀ i₀ high i = (high || any_high (drop i w)) ≡ any_high w
 
 abbrev decreases-loop : tie.decreases-loop
 decreases-loop w high₀ i₀ high i = length w - i
@@ -30,10 +30,10 @@ loop-less c = search rules
 loop-again : tie.Need-loop-preserved invariant-loop decreases-loop
 loop-again c =
     let h = c.before.before in
-    sym (high-joins _ _ c.before.loop-test.true h.loop.high) ∙ h.loop.invariant
+    sym (high_joins _ _ c.before.loop-test.true h.loop.high) ∙ h.loop.invariant
 
 returns : tie.Need-returns invariant-loop decreases-loop
-returns c = ap not (high-whole c.before.before.args.w.now c.before.loop.i c.before.loop.high c.loop-test.false c.before.loop.invariant)
+returns c = ap not (high_whole c.before.before.args.w.now c.before.loop.i c.before.loop.high c.loop-test.false c.before.loop.invariant)
 
 pub is-ascii-spec : {M : Type 1} → statement M
 is-ascii-spec =

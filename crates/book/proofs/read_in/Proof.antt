@@ -4,7 +4,7 @@ use native.Mathlib.Omega.{arith}
 use borrow.Author.Rules.{rules}
 use lib.ListN.{length-take}
 use Rattle.header.specs.Head.{formats}
-use Rattle.book.proofs.Room.{in-bad, in-short, in-good}
+use Rattle.book.proofs.Room.{in_bad, in_short, in_good}
 use Rattle.book.proofs.read_in.Statement.{statement}
 use Rattle.book.proofs.read_in.Tie as tie
 
@@ -25,7 +25,7 @@ returns c =
     let r = c.before.before.before.before in
     let l = r.before.before in
     let a = l.before.before.args in
-    in-short (formats a.least) a.room.now a.len _ l.least.ensures _ _ _ (sym r.read.ensures ∙ c.before.before.whole.given.1) c.if1.true
+    in_short (formats a.least) a.room.now a.len _ l.least.ensures _ _ _ (sym r.read.ensures ∙ c.before.before.whole.given.1) c.if1.true
 
 enum-known-whole-2 : tie.Need-enum-known-whole-2
 enum-known-whole-2 c = search rules
@@ -35,14 +35,14 @@ returns-2 c =
     let r = c.before.before.before.before in
     let l = r.before.before in
     let a = l.before.before.args in
-    in-good (formats a.least) a.room.now a.len _ l.least.ensures _ _ _ (sym r.read.ensures ∙ c.before.before.whole.given.1) c.if1.false
+    in_good (formats a.least) a.room.now a.len _ l.least.ensures _ _ _ (sym r.read.ensures ∙ c.before.before.whole.given.1) c.if1.false
 
 returns-3 : tie.Need-returns-3
 returns-3 c =
     let r = c.before.before.before in
     let l = r.before.before in
     let a = l.before.before.args in
-    in-bad (formats a.least) a.room.now a.len _ l.least.ensures _ (sym r.read.ensures ∙ c.before.whole2.given.1)
+    in_bad (formats a.least) a.room.now a.len _ l.least.ensures _ (sym r.read.ensures ∙ c.before.whole2.given.1)
 
 pub read-in-spec : {M : Type 1} → statement M
 read-in-spec = tie.close (tie.spec least-requires slice-aggregate-read read-requires enum-known-whole returns enum-known-whole-2 returns-2 returns-3)

@@ -1,7 +1,7 @@
 -- `books::simmerquilt_book_next` meets its contract.
 use mathlib.Core.Path.{ap, ◌∙◌}
 use borrow.Author.Rules.{rules}
-use Rattle.telling_books.specs.Numbers.{stepNumbers}
+use Rattle.telling_books.specs.Numbers.{step_numbers}
 use Rattle.books.proofs.simmerquilt_book_next.Statement.{statement}
 use Rattle.books.proofs.simmerquilt_book_next.Tie as tie
 
@@ -11,4 +11,4 @@ simmerquilt-book-next-spec =
     (tie.spec
     (λ c κs. search rules)
     (λ c κs. search rules)
-    (λ c. c.tell-step.ensures ∙ ap stepNumbers c.before.before.next.ensures))
+    (λ c. c.tell-step.ensures ∙ ap step_numbers c.before.before.next.ensures))

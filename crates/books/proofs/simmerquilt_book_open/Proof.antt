@@ -1,7 +1,7 @@
 -- `books::simmerquilt_book_open` meets its contract.
 use mathlib.Core.Path.{ap, ◌∙◌}
 use borrow.Author.Rules.{rules}
-use Rattle.telling_books.specs.Numbers.{openedNumbers}
+use Rattle.telling_books.specs.Numbers.{opened_numbers}
 use Rattle.books.proofs.simmerquilt_book_open.Statement.{statement}
 use Rattle.books.proofs.simmerquilt_book_open.Tie as tie
 
@@ -11,4 +11,4 @@ simmerquilt-book-open-spec =
     (tie.spec
     (λ c κs. search rules)
     (λ c κs. search rules)
-    (λ c. c.tell-opened.ensures ∙ ap openedNumbers c.before.before.«open».ensures))
+    (λ c. c.tell-opened.ensures ∙ ap opened_numbers c.before.before.«open».ensures))

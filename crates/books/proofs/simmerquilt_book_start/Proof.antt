@@ -1,6 +1,6 @@
 -- `books::simmerquilt_book_start` meets its contract: it starts the book under the host's limit.
 use borrow.Author.Rules.{rules}
-use Rattle.books.proofs.Started.{told-started}
+use Rattle.books.proofs.Started.{told_started}
 use Rattle.books.proofs.simmerquilt_book_start.Statement.{statement}
 use Rattle.books.proofs.simmerquilt_book_start.Tie as tie
 
@@ -12,4 +12,4 @@ simmerquilt-book-start-spec =
     (λ c κs. search rules)
     (λ c κs. search rules)
     (λ c. search rules)
-    (λ c. let d = c.before.before.before.before in told-started d.before.limit-of.ensures d.start.ensures c.tell-made.ensures))
+    (λ c. let d = c.before.before.before.before in told_started d.before.limit-of.ensures d.start.ensures c.tell-made.ensures))

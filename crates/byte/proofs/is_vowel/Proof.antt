@@ -5,8 +5,8 @@ use native.Mathlib.Omega.{arith}
 use borrow.Author.Tests.{eq-eqb, ne_eqb}
 use lib.Bits.{mask_lt}
 use Rattle.byte.specs.Vowel.{vowel}
-use Rattle.basics.proofs.Computed.{alike-where}
-use Rattle.byte.proofs.Mask.{in_row, offRow, hasLetter}
+use Rattle.basics.proofs.Computed.{alike_where}
+use Rattle.byte.proofs.Mask.{in_row, off_row, has_letter}
 use Rattle.byte.proofs.is_vowel.Statement.{statement}
 use Rattle.byte.proofs.is_vowel.Tie as tie
 
@@ -15,7 +15,7 @@ unfolding vowel
 is-vowel-spec =
     tie.close
     (tie.spec
-    (λ c. alike-where (offRow _ _) (λ j. false) vowel 256 _ c.before.ranges.b.fits (ap not (ne_eqb _ _ c.if1.true)) refl)
+    (λ c. alike_where (off_row _ _) (λ j. false) vowel 256 _ c.before.ranges.b.fits (ap not (ne_eqb _ _ c.if1.true)) refl)
     (λ c. omega (arith, mask_lt c.before.args.b 5))
     (λ c. omega (arith, mask_lt c.before.args.b 5))
-    (λ c. alike-where (in_row _ _) (hasLetter _) vowel 256 _ c.before.ranges.b.fits (eq-eqb _ _ c.if1.false) refl))
+    (λ c. alike_where (in_row _ _) (has_letter _) vowel 256 _ c.before.ranges.b.fits (eq-eqb _ _ c.if1.false) refl))

@@ -1,4 +1,4 @@
--- `chosen::front_of` meets its contract, since its test is that of `frontOf`.
+-- `chosen::front_of` meets its contract, since its test is that of `front_of`.
 use mathlib.Core.Path.{sym}
 use borrow.Author.Tests.{le-leb, lt-leb}
 use borrow.Author.Rules.{rules}

@@ -4,7 +4,7 @@ use native.Mathlib.Omega.{arith}
 use borrow.Author.Rules.{rules}
 use lib.ListN.{length-take}
 use lib.Seq.{length-take-le}
-use Rattle.closing.proofs.Closed.{close-unread, close-fits, good-entries, close_at, close-none}
+use Rattle.closing.proofs.Closed.{close_unread, close_fits, good_entries, close_at, close_none}
 use Rattle.closing.proofs.close.Statement.{statement}
 use Rattle.closing.proofs.close.Tie as tie
 
@@ -18,19 +18,19 @@ slice-reshare-prefix-find-live : tie.Need-slice-reshare-prefix-find-live
 slice-reshare-prefix-find-live c =
     let r = c.before.before.before in
     let a = r.before.before.before.args in
-    close-fits a.room.now a.len a.station _ _ _ (sym r.read-in.ensures ∙ c.before.whole.given.1)
+    close_fits a.room.now a.len a.station _ _ _ (sym r.read-in.ensures ∙ c.before.whole.given.1)
 
 slice-aggregate-find-live : tie.Need-slice-aggregate-find-live
 slice-aggregate-find-live c =
     let r = c.before.before.before.before in
     let a = r.before.before.before.args in
-    sym (length-take-le a.len a.room.now (close-fits a.room.now a.len a.station _ _ _ (sym r.read-in.ensures ∙ c.before.before.whole.given.1)))
+    sym (length-take-le a.len a.room.now (close_fits a.room.now a.len a.station _ _ _ (sym r.read-in.ensures ∙ c.before.before.whole.given.1)))
 
 find-live-requires : tie.Need-find-live-requires
 find-live-requires c κs =
     let r = c.before.before.before.before in
     let a = r.before.before.before.args in
-    good-entries a.room.now a.len a.station _ _ _ (sym r.read-in.ensures ∙ c.before.before.whole.given.1)
+    good_entries a.room.now a.len a.station _ _ _ (sym r.read-in.ensures ∙ c.before.before.whole.given.1)
 
 enum-known-found : tie.Need-enum-known-found
 enum-known-found c = search rules
@@ -65,7 +65,7 @@ returns-2 c =
     let f = c.before.before.before in
     let r = f.before.before.before.before.before in
     let a = r.before.before.before.args in
-    close-none a.room.now a.len a.station _ _ _ (sym r.read-in.ensures ∙ f.before.before.before.whole.given.1) _ _ f.find-live.ensures c.before.found2.given.1
+    close_none a.room.now a.len a.station _ _ _ (sym r.read-in.ensures ∙ f.before.before.before.whole.given.1) _ _ f.find-live.ensures c.before.found2.given.1
 
 same-length-3 : tie.Need-same-length-3
 same-length-3 c = search rules
@@ -74,7 +74,7 @@ returns-3 : tie.Need-returns-3
 returns-3 c =
     let r = c.before.before.before in
     let a = r.before.before.before.args in
-    close-unread a.room.now a.len a.station _ (sym r.read-in.ensures ∙ c.before.whole2.given.1)
+    close_unread a.room.now a.len a.station _ (sym r.read-in.ensures ∙ c.before.whole2.given.1)
 
 pub close_spec : {M : Type 1} → statement M
 close_spec =

@@ -7,8 +7,8 @@ use lib.ListN.{take, drop}
 use lib.Seq.{length-take-le}
 use Rattle.fields.proofs.Law.{bytes}
 use Rattle.entry.specs.Entry.{read_entry}
-use Rattle.entry.proofs.Kind.{never-end}
-use Rattle.closing_up.proofs.Up.{Upto, upto-start, upto-end, upto-never, turn, upto-passed, upto-kept}
+use Rattle.entry.proofs.Kind.{never_end}
+use Rattle.closing_up.proofs.Up.{Upto, upto_start, upto_end, upto_never, turn, upto_passed, upto_kept}
 use Rattle.closing_up.proofs.close_up.Statement.{statement}
 use Rattle.closing_up.proofs.close_up.Tie as tie
 
@@ -21,7 +21,7 @@ decreases-loop room₀ len format from at₀ to₀ floor₀ room at to floor = l
 loop-holds : tie.Need-loop-init invariant-loop decreases-loop
 loop-holds c =
     let s = c.before in
-    upto-start s.args.room.now s.args.len s.args.format s.args.from s.requires.0 s.requires.2
+    upto_start s.args.room.now s.args.len s.args.format s.args.from s.requires.0 s.requires.2
 
 slice-reshare-prefix-record-at : tie.Need-slice-reshare-prefix-record-at invariant-loop decreases-loop
 slice-reshare-prefix-record-at c = omega (arith, c.before.loop.invariant.long, c.before.before.before.requires.1)
@@ -78,7 +78,7 @@ loop-again c =
     let l = c.before.before.before.before.before.before.before.before.before.before.before.loop in
     let h = c.before.before.before.before.before.before.before.before.before.before.loop-test.true in
     let t = turn a.room.now a.len a.format a.from s.requires.1 l.room l.at l.to l.floor l.invariant h _ _ _ _ _ _ (sym c.before.before.before.before.before.before.before.before.record-at.ensures ∙ c.before.before.before.before.before.before.one.given.1) in
-    upto-kept a.room.now a.len a.format a.from s.requires.1 l.room l.at l.to l.floor l.invariant h _ _ t (bytes a.room.now (λ i. omega (arith, k.slice-known.given i))) c.before.before.before.before.if1.true _ c.before.before.copy-down.ensures
+    upto_kept a.room.now a.len a.format a.from s.requires.1 l.room l.at l.to l.floor l.invariant h _ _ t (bytes a.room.now (λ i. omega (arith, k.slice-known.given i))) c.before.before.before.before.if1.true _ c.before.before.copy-down.ensures
 
 loop-less-2 : tie.Need-loop-smaller-2 invariant-loop decreases-loop
 loop-less-2 c =
@@ -95,7 +95,7 @@ loop-again-2 c =
     let l = c.before.before.before.before.before.before.before.loop in
     let h = c.before.before.before.before.before.before.loop-test.true in
     let t = turn a.room.now a.len a.format a.from s.requires.1 l.room l.at l.to l.floor l.invariant h _ _ _ _ _ _ (sym c.before.before.before.before.record-at.ensures ∙ c.before.before.one.given.1) in
-    upto-passed a.room.now a.len a.format a.from s.requires.1 l.room l.at l.to l.floor l.invariant h _ _ t c.if1.false
+    upto_passed a.room.now a.len a.format a.from s.requires.1 l.room l.at l.to l.floor l.invariant h _ _ t c.if1.false
 
 enum_told : tie.Need-enum-told invariant-loop decreases-loop
 enum_told c = search rules
@@ -108,7 +108,7 @@ returns c =
     let s = c.before.before.before.before.before.before.before in
     let a = s.args in
     let l = c.before.before.before.before.before.loop in
-    never-end a.format l.at (read_entry a.format l.floor (drop l.at (take a.len l.room))) (sym c.before.before.record-at.ensures ∙ c.enum_told.given.1)
+    never_end a.format l.at (read_entry a.format l.floor (drop l.at (take a.len l.room))) (sym c.before.before.record-at.ensures ∙ c.enum_told.given.1)
 
 enum-told-2 : tie.Need-enum-told-2 invariant-loop decreases-loop
 enum-told-2 c = search rules
@@ -121,7 +121,7 @@ returns-2 c =
     let s = c.before.before.before.before.before.before.before in
     let a = s.args in
     let l = c.before.before.before.before.before.loop in
-    upto-never a.room.now a.len a.format a.from s.requires.1 l.room l.at l.to l.floor l.invariant c.before.before.before.before.loop-test.true _ (sym c.before.before.record-at.ensures ∙ c.enum-told2.given.1)
+    upto_never a.room.now a.len a.format a.from s.requires.1 l.room l.at l.to l.floor l.invariant c.before.before.before.before.loop-test.true _ (sym c.before.before.record-at.ensures ∙ c.enum-told2.given.1)
 
 same-length-3 : tie.Need-same-length-3 invariant-loop decreases-loop
 same-length-3 c = c.before.loop.invariant.long
@@ -131,7 +131,7 @@ returns-3 c =
     let s = c.before.before.before in
     let a = s.args in
     let l = c.before.loop in
-    upto-end a.room.now a.len a.format a.from s.requires.1 l.room l.at l.to l.floor l.invariant c.loop-test.false
+    upto_end a.room.now a.len a.format a.from s.requires.1 l.room l.at l.to l.floor l.invariant c.loop-test.false
 
 pub close-up-spec : {M : Type 1} → statement M
 close-up-spec =

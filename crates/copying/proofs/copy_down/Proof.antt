@@ -4,7 +4,7 @@ use mathlib.Core.Path.{◌≡◌, refl, ap}
 use native.Mathlib.Omega.{arith}
 use lib.Seq.{sets}
 use lib.ListN.{length, take, drop, length-set}
-use Rattle.copying.proofs.Copies.{sets-still, down-one, none_left}
+use Rattle.copying.proofs.Copies.{sets_still, down_one, none_left}
 use Rattle.copying.proofs.copy_down.Statement.{statement}
 use Rattle.copying.proofs.copy_down.Tie as tie
 
@@ -19,7 +19,7 @@ returns : tie.Need-returns invariant-loop decreases-loop
 returns c =
     let s = c.before in
     let a = s.args in
-    sets-still a.out.now a.to a.at a.n c.if1.true s.requires.1
+    sets_still a.out.now a.to a.at a.n c.if1.true s.requires.1
 
 loop-holds : tie.Need-loop-init invariant-loop decreases-loop
 loop-holds c =
@@ -49,7 +49,7 @@ loop-again c =
     let s = c.before.before.before.before in
     let a = s.args in
     let l = c.before.before.loop in
-    let d = down-one a.out.now l.out a.to a.at a.n l.i s.requires.0 s.requires.1 c.before.loop-test.true l.invariant.1 l.invariant.2 l.invariant.3 in
+    let d = down_one a.out.now l.out a.to a.at a.n l.i s.requires.0 s.requires.1 c.before.loop-test.true l.invariant.1 l.invariant.2 l.invariant.3 in
     (omega arith, simp length-set l.invariant.1, d.0, d.1)
 
 same_length : tie.Need-same-length invariant-loop decreases-loop

@@ -2,7 +2,7 @@
 use mathlib.Core.Path.{sym, ◌∙◌}
 use native.Mathlib.Omega.{arith}
 use borrow.Author.Rules.{rules}
-use Rattle.entry.proofs.Told.{a-record, codes-bad, name-bad, station-bad, station-small}
+use Rattle.entry.proofs.Told.{a_record, codes_bad, name_bad, station_bad, station_small}
 use Rattle.entry.proofs.body_at.Statement.{statement}
 use Rattle.entry.proofs.body_at.Tie as tie
 
@@ -18,19 +18,19 @@ body-at-spec =
     (λ c. search rules)
     (λ c.
     let a = c.before.before.before.before.before.before.before.before.before.before.before.before.before.args in
-    omega (arith, station-small a.s.now a.at a.kind a.floor _ _ (sym c.before.before.before.before.before.before.before.before.before.before.before.station-at.ensures ∙ c.before.before.before.before.before.before.before.before.before.first.given.1)))
+    omega (arith, station_small a.s.now a.at a.kind a.floor _ _ (sym c.before.before.before.before.before.before.before.before.before.before.before.station-at.ensures ∙ c.before.before.before.before.before.before.before.before.before.first.given.1)))
     (λ c. search rules)
     (λ c. search rules)
     (λ c. search rules)
     (λ c.
     let a = c.before.before.before.before.before.before.before.before.before.before.before.before.before.args in
-    a-record a.s.now a.at a.kind a.floor _ _ _ _ _ _ _ (sym c.before.before.before.before.before.before.before.before.before.before.before.station-at.ensures ∙ c.before.before.before.before.before.before.before.before.before.first.given.1) (sym c.before.before.before.before.before.before.before.name-at.ensures ∙ c.before.before.before.before.before.second.given.1) (sym c.before.before.before.codes_at.ensures ∙ c.before.third.given.1))
+    a_record a.s.now a.at a.kind a.floor _ _ _ _ _ _ _ (sym c.before.before.before.before.before.before.before.before.before.before.before.station-at.ensures ∙ c.before.before.before.before.before.before.before.before.before.first.given.1) (sym c.before.before.before.before.before.before.before.name-at.ensures ∙ c.before.before.before.before.before.second.given.1) (sym c.before.before.before.codes_at.ensures ∙ c.before.third.given.1))
     (λ c.
     let a = c.before.before.before.before.before.before.before.before.before.before.before.before.before.args in
-    codes-bad a.s.now a.at a.kind a.floor _ _ _ _ _ (sym c.before.before.before.before.before.before.before.before.before.before.before.station-at.ensures ∙ c.before.before.before.before.before.before.before.before.before.first.given.1) (sym c.before.before.before.before.before.before.before.name-at.ensures ∙ c.before.before.before.before.before.second.given.1) (sym c.before.before.before.codes_at.ensures ∙ c.before.third2.given.1))
+    codes_bad a.s.now a.at a.kind a.floor _ _ _ _ _ (sym c.before.before.before.before.before.before.before.before.before.before.before.station-at.ensures ∙ c.before.before.before.before.before.before.before.before.before.first.given.1) (sym c.before.before.before.before.before.before.before.name-at.ensures ∙ c.before.before.before.before.before.second.given.1) (sym c.before.before.before.codes_at.ensures ∙ c.before.third2.given.1))
     (λ c.
     let a = c.before.before.before.before.before.before.before.before.before.args in
-    name-bad a.s.now a.at a.kind a.floor _ _ _ (sym c.before.before.before.before.before.before.before.station-at.ensures ∙ c.before.before.before.before.before.first.given.1) (sym c.before.before.before.name-at.ensures ∙ c.before.second2.given.1))
+    name_bad a.s.now a.at a.kind a.floor _ _ _ (sym c.before.before.before.before.before.before.before.station-at.ensures ∙ c.before.before.before.before.before.first.given.1) (sym c.before.before.before.name-at.ensures ∙ c.before.second2.given.1))
     (λ c.
     let a = c.before.before.before.before.before.args in
-    station-bad a.s.now a.at a.kind a.floor _ (sym c.before.before.before.station-at.ensures ∙ c.before.first2.given.1)))
+    station_bad a.s.now a.at a.kind a.floor _ (sym c.before.before.before.station-at.ensures ∙ c.before.first2.given.1)))

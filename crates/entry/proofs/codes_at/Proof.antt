@@ -1,7 +1,7 @@
 -- `entry::codes_at` meets its contract.
 use mathlib.Core.Path.{sym, ◌∙◌}
 use borrow.Author.Rules.{rules}
-use Rattle.entry.proofs.Told.{both-codes, second-code, first_code}
+use Rattle.entry.proofs.Told.{both_codes, second_code, first_code}
 use Rattle.entry.proofs.codes_at.Statement.{statement}
 use Rattle.entry.proofs.codes_at.Tie as tie
 
@@ -17,10 +17,10 @@ codes-at-spec =
     (λ c. search rules)
     (λ c.
     let a = c.before.before.before.before.before.before.before.before.before.args in
-    both-codes a.s.now a.at _ _ _ _ (sym c.before.before.before.before.before.before.before.text_at.ensures ∙ c.before.before.before.before.before.first.given.1) (sym c.before.before.before.text-at2.ensures ∙ c.before.second.given.1))
+    both_codes a.s.now a.at _ _ _ _ (sym c.before.before.before.before.before.before.before.text_at.ensures ∙ c.before.before.before.before.before.first.given.1) (sym c.before.before.before.text-at2.ensures ∙ c.before.second.given.1))
     (λ c.
     let a = c.before.before.before.before.before.before.before.before.before.args in
-    second-code a.s.now a.at _ _ _ (sym c.before.before.before.before.before.before.before.text_at.ensures ∙ c.before.before.before.before.before.first.given.1) (sym c.before.before.before.text-at2.ensures ∙ c.before.second2.given.1))
+    second_code a.s.now a.at _ _ _ (sym c.before.before.before.before.before.before.before.text_at.ensures ∙ c.before.before.before.before.before.first.given.1) (sym c.before.before.before.text-at2.ensures ∙ c.before.second2.given.1))
     (λ c.
     let a = c.before.before.before.before.before.args in
     first_code a.s.now a.at _ (sym c.before.before.before.text_at.ensures ∙ c.before.first2.given.1)))

@@ -1,7 +1,7 @@
 -- `entry::record_at` meets its contract.
 use mathlib.Core.Path.{sym, ◌∙◌}
 use borrow.Author.Rules.{rules}
-use Rattle.entry.proofs.Kind.{kind-body, kind-fault}
+use Rattle.entry.proofs.Kind.{kind_body, kind_fault}
 use Rattle.entry.proofs.record_at.Statement.{statement}
 use Rattle.entry.proofs.record_at.Tie as tie
 
@@ -16,8 +16,8 @@ record-at-spec =
     (λ c.
     let k = c.before.before.before.before in
     let a = k.before.before.args in
-    c.body_at.ensures ∙ kind-body a.format a.floor a.s.now a.at _ _ (sym k.kind_at.ensures ∙ c.before.before.first.given.1))
+    c.body_at.ensures ∙ kind_body a.format a.floor a.s.now a.at _ _ (sym k.kind_at.ensures ∙ c.before.before.first.given.1))
     (λ c.
     let k = c.before.before.before in
     let a = k.before.before.args in
-    kind-fault a.format a.floor a.s.now a.at _ (sym k.kind_at.ensures ∙ c.before.first2.given.1)))
+    kind_fault a.format a.floor a.s.now a.at _ (sym k.kind_at.ensures ∙ c.before.first2.given.1)))

@@ -4,8 +4,8 @@ use native.Mathlib.Omega.{arith}
 use borrow.Author.Rules.{rules}
 use lib.ListN.{drop}
 use Rattle.entry.specs.Entry.{rising}
-use Rattle.entry.proofs.Told.{rising-below, rising-good}
-use Rattle.fields.proofs.Told.{value-kept, value-refused, value-passed}
+use Rattle.entry.proofs.Told.{rising_below, rising_good}
+use Rattle.fields.proofs.Told.{value_kept, value_refused, value_passed}
 use Rattle.entry.proofs.station_at.Statement.{statement}
 use Rattle.entry.proofs.station_at.Tie as tie
 
@@ -17,11 +17,11 @@ station-at-spec =
     (λ c. search rules)
     (λ c.
     let a = c.before.before.before.before.before.before.args in
-    value-refused (rising a.floor) (drop a.at a.s.now) a.at _ _ 8 (sym c.before.before.before.before.number_at.ensures ∙ c.before.before.found.given.1) (rising-below a.floor _ c.if1.true) (λ z. omega arith))
+    value_refused (rising a.floor) (drop a.at a.s.now) a.at _ _ 8 (sym c.before.before.before.before.number_at.ensures ∙ c.before.before.found.given.1) (rising_below a.floor _ c.if1.true) (λ z. omega arith))
     (λ c. search rules)
     (λ c.
     let a = c.before.before.before.before.before.before.args in
-    value-kept (rising a.floor) (drop a.at a.s.now) a.at _ _ (sym c.before.before.before.before.number_at.ensures ∙ c.before.before.found.given.1) (rising-good a.floor _ c.if1.false))
+    value_kept (rising a.floor) (drop a.at a.s.now) a.at _ _ (sym c.before.before.before.before.number_at.ensures ∙ c.before.before.found.given.1) (rising_good a.floor _ c.if1.false))
     (λ c.
     let a = c.before.before.before.before.before.args in
-    value-passed (rising a.floor) (drop a.at a.s.now) a.at _ (sym c.before.before.before.number_at.ensures ∙ c.before.found2.given.1)))
+    value_passed (rising a.floor) (drop a.at a.s.now) a.at _ (sym c.before.before.before.number_at.ensures ∙ c.before.found2.given.1)))

@@ -8,9 +8,9 @@ use Rattle.answers.specs.declared.Verdict.TheVariants.{Equal, Different}
 use Rattle.encoder.specs.Encode.{number_of}
 use Rattle.terms.specs.declared.Edition.TheVariants.{E1}
 use Rattle.demands.specs.Code.{code_of}
-use Rattle.equality.specs.Equality.{unlessRefused, compared}
-use Rattle.demands.proofs.Room.{never-three, never-four}
-use Rattle.demands.proofs.Part.{part-is}
+use Rattle.equality.specs.Equality.{unless_refused, compared}
+use Rattle.demands.proofs.Room.{never_three, never_four}
+use Rattle.demands.proofs.Part.{part_is}
 use Rattle.equality.proofs.Asked.{told, compared_is}
 use Rattle.equality.proofs.against.Statement.{statement}
 use Rattle.equality.proofs.against.Tie as tie
@@ -59,12 +59,12 @@ abbrev entry : tie.After-same-bytes → tie.Start
 entry c = c.before.before.before.before.before.before.before.before.before.before.before.before.before.before.before
 
 by-test : (c : tie.After-same-bytes) (r : Bool) → c.same_bytes.result ≡ r
-    → cond r Equal Different ≡ unlessRefused 2 (entry c).args.two.now (compared (entry c).args.code.now (code_of E1 (entry c).args.limit (entry c).args.choice (entry c).args.two.now))
+    → cond r Equal Different ≡ unless_refused 2 (entry c).args.two.now (compared (entry c).args.code.now (code_of E1 (entry c).args.limit (entry c).args.choice (entry c).args.two.now))
 by-test c r t =
     let a = (entry c).args in
     let e = c.before.before.before.before.before.before.before.before.before.encode.ensures in
     let q = c.before.before.before.before.before.primary.given.1 in
-    compared_is _ r a.code.now _ _ c.same_bytes.ensures (part-is c.before.before.before.before.before.before.before.before.before.before.before.before.new.ensures e a.choice _ _ _ q c.before.chosen.ensures) t
+    compared_is _ r a.code.now _ _ c.same_bytes.ensures (part_is c.before.before.before.before.before.before.before.before.before.before.before.before.new.ensures e a.choice _ _ _ q c.before.chosen.ensures) t
     ∙ told e 2 _ (said.Coded _ _ _) q
 
 returns : tie.Need-returns
@@ -80,10 +80,10 @@ returns-4 : tie.Need-returns-4
 returns-4 c = told c.before.before.before.before.before.encode.ensures 2 _ (said.NotAscii _) c.before.at.given.1
 
 returns-5 : tie.Need-returns-5
-returns-5 c = absurd (never-three c.before.before.before.before.encode.ensures (omega arith) (omega arith) (ap number_of c.enum-told2.given.1))
+returns-5 c = absurd (never_three c.before.before.before.before.encode.ensures (omega arith) (omega arith) (ap number_of c.enum-told2.given.1))
 
 returns-6 : tie.Need-returns-6
-returns-6 c = absurd (never-four c.before.before.before.before.encode.ensures (omega arith) (omega arith) (ap number_of c.enum-told3.given.1))
+returns-6 c = absurd (never_four c.before.before.before.before.encode.ensures (omega arith) (omega arith) (ap number_of c.enum-told3.given.1))
 
 pub against-spec : {M : Type 1} → statement M
 against-spec =

@@ -8,9 +8,9 @@ use Rattle.answers.specs.declared.Answer.TheVariants as said
 use Rattle.encoder.specs.Encode.{number_of}
 use Rattle.terms.specs.declared.Edition.TheVariants.{E1}
 use Rattle.demands.specs.Code.{code_of}
-use Rattle.equality.specs.Equality.{unlessRefused, compared}
-use Rattle.demands.proofs.Room.{never-three, never-four}
-use Rattle.demands.proofs.Part.{part-is}
+use Rattle.equality.specs.Equality.{unless_refused, compared}
+use Rattle.demands.proofs.Room.{never_three, never_four}
+use Rattle.demands.proofs.Part.{part_is}
 use Rattle.equality.proofs.Asked.{told}
 use Rattle.equality.proofs.Table.{answered}
 use Rattle.equality.proofs.equal.Statement.{statement}
@@ -62,8 +62,8 @@ returns c =
     let q = c.before.before.before.before.before.primary.given.1 in
     answered _ _ _ _
     (c.against.ensures
-    ∙ ap (λ (x : List ℕ). unlessRefused 2 a.two.now (compared x (code_of E1 a.limit a.choice a.two.now)))
-    (part-is c.before.before.before.before.before.before.before.before.before.before.before.before.new.ensures e a.choice _ _ _ q c.before.chosen.ensures)
+    ∙ ap (λ (x : List ℕ). unless_refused 2 a.two.now (compared x (code_of E1 a.limit a.choice a.two.now)))
+    (part_is c.before.before.before.before.before.before.before.before.before.before.before.before.new.ensures e a.choice _ _ _ q c.before.chosen.ensures)
     ∙ told e 1 _ (said.Coded _ _ _) q)
 
 returns-2 : tie.Need-returns-2
@@ -73,10 +73,10 @@ returns-3 : tie.Need-returns-3
 returns-3 c = answered _ _ _ _ (told c.before.before.before.before.before.encode.ensures 1 _ (said.NotAscii _) c.before.at.given.1)
 
 returns-4 : tie.Need-returns-4
-returns-4 c = absurd (never-three c.before.before.before.before.encode.ensures (omega arith) (omega arith) (ap number_of c.enum-told2.given.1))
+returns-4 c = absurd (never_three c.before.before.before.before.encode.ensures (omega arith) (omega arith) (ap number_of c.enum-told2.given.1))
 
 returns-5 : tie.Need-returns-5
-returns-5 c = absurd (never-four c.before.before.before.before.encode.ensures (omega arith) (omega arith) (ap number_of c.enum-told3.given.1))
+returns-5 c = absurd (never_four c.before.before.before.before.encode.ensures (omega arith) (omega arith) (ap number_of c.enum-told3.given.1))
 
 pub equal-spec : {M : Type 1} → statement M
 equal-spec =

@@ -1,6 +1,6 @@
 -- `explain::simmerquilt_explain` meets its contract: it tells what `listing::explain` answers under the host's limit.
 use borrow.Author.Rules.{rules}
-use Rattle.explain.proofs.Face.{told-listed}
+use Rattle.explain.proofs.Face.{told_listed}
 use Rattle.explain.proofs.simmerquilt_explain.Statement.{statement}
 use Rattle.explain.proofs.simmerquilt_explain.Tie as tie
 
@@ -14,4 +14,4 @@ simmerquilt-explain-spec =
     (λ c. search rules)
     (λ c.
     let e = c.before.before.before.before in
-    told-listed e.before.before.limit-of.ensures e.explain.ensures c.tell.ensures))
+    told_listed e.before.before.limit-of.ensures e.explain.ensures c.tell.ensures))

@@ -1,6 +1,6 @@
 -- `fields::bytes_at` meets its contract.
 use borrow.Author.Rules.{rules}
-use Rattle.fields.proofs.Told.{bytes-there, bytes_cut}
+use Rattle.fields.proofs.Told.{bytes_there, bytes_cut}
 use Rattle.fields.proofs.bytes_at.Statement.{statement}
 use Rattle.fields.proofs.bytes_at.Tie as tie
 
@@ -14,4 +14,4 @@ bytes-at-spec = tie.close
     (λ c. search rules)
     (λ c.
     let a = c.before.before.before.args in
-    bytes-there a.s.now a.start a.len _ c.before.left-from.ensures c.if1.false))
+    bytes_there a.s.now a.start a.len _ c.before.left-from.ensures c.if1.false))

@@ -1,7 +1,7 @@
 -- `fields::number_at` meets its contract.
 use native.Mathlib.Omega.{arith}
 use borrow.Author.Rules.{rules}
-use Rattle.fields.proofs.Told.{found, found-fits, found-bad, found-short}
+use Rattle.fields.proofs.Told.{found, found_fits, found_bad, found_short}
 use Rattle.fields.proofs.number_at.Statement.{statement}
 use Rattle.fields.proofs.number_at.Tie as tie
 
@@ -13,7 +13,7 @@ number-at-spec =
     (λ c. search rules)
     (λ c.
     let a = c.before.before.before.before.before.args in
-    omega (arith, found-fits a.s.now a.at _ _ _ c.before.before.before.read_number.ensures c.before.found.given.1))
+    omega (arith, found_fits a.s.now a.at _ _ _ c.before.before.before.read_number.ensures c.before.found.given.1))
     (λ c. search rules)
     (λ c. search rules)
     (λ c.
@@ -21,7 +21,7 @@ number-at-spec =
     found a.s.now a.at _ _ _ c.before.before.before.read_number.ensures c.before.found.given.1)
     (λ c.
     let a = c.before.before.before.before.args in
-    found-bad a.s.now a.at _ c.before.before.read_number.ensures c.enum_told.given.1)
+    found_bad a.s.now a.at _ c.before.before.read_number.ensures c.enum_told.given.1)
     (λ c.
     let a = c.before.before.before.before.args in
-    found-short a.s.now a.at _ c.before.before.read_number.ensures c.enum-told2.given.1))
+    found_short a.s.now a.at _ c.before.before.read_number.ensures c.enum-told2.given.1))

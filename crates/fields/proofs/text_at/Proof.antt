@@ -2,7 +2,7 @@
 use mathlib.Core.Path.{sym, ◌∙◌}
 use borrow.Author.Rules.{rules}
 use Rattle.fields.specs.Field.{any}
-use Rattle.fields.proofs.Told.{text-told, length-told}
+use Rattle.fields.proofs.Told.{text_told, length_told}
 use Rattle.fields.proofs.text_at.Statement.{statement}
 use Rattle.fields.proofs.text_at.Tie as tie
 
@@ -17,7 +17,7 @@ text-at-spec =
     (λ c. search rules)
     (λ c.
     let a = c.before.before.before.before.before.before.args in
-    text-told any any a.s.now a.at _ _ _ (sym c.before.before.before.before.number_at.ensures ∙ c.before.before.long.given.1) c.bytes-at.ensures)
+    text_told any any a.s.now a.at _ _ _ (sym c.before.before.before.before.number_at.ensures ∙ c.before.before.long.given.1) c.bytes-at.ensures)
     (λ c.
     let a = c.before.before.before.before.before.args in
-    length-told any any a.s.now a.at _ (sym c.before.before.before.number_at.ensures ∙ c.before.long2.given.1)))
+    length_told any any a.s.now a.at _ (sym c.before.before.before.number_at.ensures ∙ c.before.long2.given.1)))

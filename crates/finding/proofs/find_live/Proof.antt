@@ -5,8 +5,8 @@ use native.Mathlib.Omega.{arith}
 use borrow.Author.Rules.{rules}
 use lib.ListN.{length, drop}
 use Rattle.entry.specs.Entry.{read_entry}
-use Rattle.entry.proofs.Kind.{never-end}
-use Rattle.finding.proofs.Seeking.{Seeking, seek-start, seek-none, seek-never, passing, seek_hit, seek-on}
+use Rattle.entry.proofs.Kind.{never_end}
+use Rattle.finding.proofs.Seeking.{Seeking, seek_start, seek_none, seek_never, passing, seek_hit, seek_on}
 use Rattle.finding.proofs.find_live.Statement.{statement}
 use Rattle.finding.proofs.find_live.Tie as tie
 
@@ -19,7 +19,7 @@ decreases-loop s from format station at₀ floor₀ at floor = length s - at
 loop-holds : tie.Need-loop-init invariant-loop decreases-loop
 loop-holds c =
     let a = c.before.args in
-    seek-start a.s.now a.format a.station a.from c.before.requires
+    seek_start a.s.now a.format a.station a.from c.before.requires
 
 record-at-requires : tie.Need-record-at-requires invariant-loop decreases-loop
 record-at-requires c κs = search rules
@@ -50,7 +50,7 @@ loop-again c =
     let a = c.before.before.before.before.before.before.before.before.before.args in
     let l = c.before.before.before.before.before.before.before.loop in
     let h = c.before.before.before.before.before.before.loop-test.true in
-    seek-on a.s.now a.format a.station a.from l.at l.floor l.invariant h _ _ _ _ _ _ (sym c.before.before.before.before.before.record-at.ensures ∙ c.before.before.before.one.given.1) (sym c.before.is-meant.ensures ∙ c.if1.false)
+    seek_on a.s.now a.format a.station a.from l.at l.floor l.invariant h _ _ _ _ _ _ (sym c.before.before.before.before.before.record-at.ensures ∙ c.before.before.before.one.given.1) (sym c.before.is-meant.ensures ∙ c.if1.false)
 
 enum_told : tie.Need-enum-told invariant-loop decreases-loop
 enum_told c = search rules
@@ -59,7 +59,7 @@ returns-2 : tie.Need-returns-2 invariant-loop decreases-loop
 returns-2 c =
     let a = c.before.before.before.before.before.before.args in
     let l = c.before.before.before.before.loop in
-    never-end a.format l.at (read_entry a.format l.floor (drop l.at a.s.now)) (sym c.before.before.record-at.ensures ∙ c.enum_told.given.1)
+    never_end a.format l.at (read_entry a.format l.floor (drop l.at a.s.now)) (sym c.before.before.record-at.ensures ∙ c.enum_told.given.1)
 
 enum-known-one-2 : tie.Need-enum-known-one-2 invariant-loop decreases-loop
 enum-known-one-2 c = search rules
@@ -68,13 +68,13 @@ returns-3 : tie.Need-returns-3 invariant-loop decreases-loop
 returns-3 c =
     let a = c.before.before.before.before.before.before.before.args in
     let l = c.before.before.before.before.before.loop in
-    seek-never a.s.now a.format a.station a.from l.at l.floor l.invariant c.before.before.before.before.loop-test.true _ (sym c.before.before.before.record-at.ensures ∙ c.before.one2.given.1)
+    seek_never a.s.now a.format a.station a.from l.at l.floor l.invariant c.before.before.before.before.loop-test.true _ (sym c.before.before.before.record-at.ensures ∙ c.before.one2.given.1)
 
 returns-4 : tie.Need-returns-4 invariant-loop decreases-loop
 returns-4 c =
     let a = c.before.before.before.args in
     let l = c.before.loop in
-    seek-none a.s.now a.format a.station a.from l.at l.floor l.invariant c.loop-test.false
+    seek_none a.s.now a.format a.station a.from l.at l.floor l.invariant c.loop-test.false
 
 pub find-live-spec : {M : Type 1} → statement M
 find-live-spec =

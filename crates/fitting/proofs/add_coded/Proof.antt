@@ -3,14 +3,14 @@ use Prim.Native.Nat.{ℕ, ◌+◌}
 use mathlib.Core.List.{List}
 use native.Mathlib.Omega.{arith}
 use borrow.Author.Rules.{rules}
-use Rattle.putting.specs.Laid.{entryWith}
-use Rattle.placing.specs.Placing.{stationFault}
-use Rattle.putting.proofs.Laid.{placed-fault, placed-short, placed-good}
-use Rattle.placing.proofs.Placing.{too_large, too-low, no-fault}
+use Rattle.putting.specs.Laid.{entry_with}
+use Rattle.placing.specs.Placing.{station_fault}
+use Rattle.putting.proofs.Laid.{placed_fault, placed_short, placed_good}
+use Rattle.placing.proofs.Placing.{too_large, too_low, no_fault}
 use Rattle.header.specs.declared.Header.{Header}
-use Rattle.entry.specs.Entry.{entryBytes}
+use Rattle.entry.specs.Entry.{entry_bytes}
 use Rattle.fields.proofs.Law.{bytes}
-use Rattle.fitting.proofs.Base.{standing, added-never, added-behind, added-not-up, added-up}
+use Rattle.fitting.proofs.Base.{standing, added_never, added_behind, added_not_up, added_up}
 use Rattle.fitting.proofs.add_coded.Statement.{statement}
 use Rattle.fitting.proofs.add_coded.Tie as tie
 
@@ -19,9 +19,9 @@ returns c =
     let s = c.before.before.before.before.before in
     let a = s.args in
     let x = standing a.room.now a.len a.header a.first a.measure s.requires.0 (bytes a.room.now (λ i. omega (arith, c.before.before.before.before.slice-known.given i))) in
-    let f : ℕ → ℕ = λ floor. stationFault floor a.station in
-    let w : Header → List ℕ = λ h. entryBytes h.format (entryWith a.station a.name.now a.primary.now a.alternate.now) in
-    added-never f w a.room.now a.len a.header a.first a.measure s.requires.0.fits x 5 (λ floor. too_large floor a.station (omega (arith, c.if1.true))) (λ z. omega arith)
+    let f : ℕ → ℕ = λ floor. station_fault floor a.station in
+    let w : Header → List ℕ = λ h. entry_bytes h.format (entry_with a.station a.name.now a.primary.now a.alternate.now) in
+    added_never f w a.room.now a.len a.header a.first a.measure s.requires.0.fits x 5 (λ floor. too_large floor a.station (omega (arith, c.if1.true))) (λ z. omega arith)
 
 cast-number : tie.Need-overflow-cast-number
 cast-number c = search rules
@@ -37,9 +37,9 @@ returns-2 c =
     let s = c.before.before.before.before.before.before.before.before in
     let a = s.args in
     let x = standing a.room.now a.len a.header a.first a.measure s.requires.0 (bytes a.room.now (λ i. omega (arith, c.before.before.before.before.before.before.before.slice-known.given i))) in
-    let f : ℕ → ℕ = λ floor. stationFault floor a.station in
-    let w : Header → List ℕ = λ h. entryBytes h.format (entryWith a.station a.name.now a.primary.now a.alternate.now) in
-    added-behind f w a.room.now a.len a.header a.first a.measure s.requires.0.fits x (omega (arith, s.requires.0.fits, c.before.if2.true, c.before.before.entry-size.ensures)) _ _ (placed-fault a.room.now a.len (w a.header) 8 (f a.measure.floor) (too-low a.measure.floor a.station (omega (arith, c.before.before.before.if1.false)) c.if3.true) (λ z. omega arith))
+    let f : ℕ → ℕ = λ floor. station_fault floor a.station in
+    let w : Header → List ℕ = λ h. entry_bytes h.format (entry_with a.station a.name.now a.primary.now a.alternate.now) in
+    added_behind f w a.room.now a.len a.header a.first a.measure s.requires.0.fits x (omega (arith, s.requires.0.fits, c.before.if2.true, c.before.before.entry-size.ensures)) _ _ (placed_fault a.room.now a.len (w a.header) 8 (f a.measure.floor) (too_low a.measure.floor a.station (omega (arith, c.before.before.before.if1.false)) c.if3.true) (λ z. omega arith))
 
 put-entry-requires : tie.Need-put-entry-requires
 put-entry-requires c κs = search rules
@@ -52,18 +52,18 @@ returns-3 c =
     let s = c.before.before.before.before.before.before.before.before.before.before.before.before in
     let a = s.args in
     let x = standing a.room.now a.len a.header a.first a.measure s.requires.0 (bytes a.room.now (λ i. omega (arith, c.before.before.before.before.before.before.before.before.before.before.before.slice-known.given i))) in
-    let f : ℕ → ℕ = λ floor. stationFault floor a.station in
-    let w : Header → List ℕ = λ h. entryBytes h.format (entryWith a.station a.name.now a.primary.now a.alternate.now) in
-    added-behind f w a.room.now a.len a.header a.first a.measure s.requires.0.fits x (omega (arith, s.requires.0.fits, c.before.before.before.before.before.if2.true, c.before.before.before.before.before.before.entry-size.ensures)) _ _ (placed-good a.room.now a.len (w a.header) (f a.measure.floor) (no-fault a.measure.floor a.station (omega (arith, c.before.before.before.before.before.before.before.if1.false)) c.before.before.before.before.if3.false) (omega (arith, s.requires.0.fits, c.before.before.before.before.before.if2.true, c.before.before.before.before.before.before.entry-size.ensures)) _ _ c.before.before.put-entry.ensures)
+    let f : ℕ → ℕ = λ floor. station_fault floor a.station in
+    let w : Header → List ℕ = λ h. entry_bytes h.format (entry_with a.station a.name.now a.primary.now a.alternate.now) in
+    added_behind f w a.room.now a.len a.header a.first a.measure s.requires.0.fits x (omega (arith, s.requires.0.fits, c.before.before.before.before.before.if2.true, c.before.before.before.before.before.before.entry-size.ensures)) _ _ (placed_good a.room.now a.len (w a.header) (f a.measure.floor) (no_fault a.measure.floor a.station (omega (arith, c.before.before.before.before.before.before.before.if1.false)) c.before.before.before.before.if3.false) (omega (arith, s.requires.0.fits, c.before.before.before.before.before.if2.true, c.before.before.before.before.before.before.entry-size.ensures)) _ _ c.before.before.put-entry.ensures)
 
 returns-4 : tie.Need-returns-4
 returns-4 c =
     let s = c.before.before.before.before.before.before.before.before in
     let a = s.args in
     let x = standing a.room.now a.len a.header a.first a.measure s.requires.0 (bytes a.room.now (λ i. omega (arith, c.before.before.before.before.before.before.before.slice-known.given i))) in
-    let f : ℕ → ℕ = λ floor. stationFault floor a.station in
-    let w : Header → List ℕ = λ h. entryBytes h.format (entryWith a.station a.name.now a.primary.now a.alternate.now) in
-    added-not-up f w a.room.now a.len a.header a.first a.measure s.requires.0.fits x (omega (arith, s.requires.0.fits, c.before.if2.false, c.before.before.entry-size.ensures)) 8 (placed-fault a.room.now (a.first + a.measure.size) (w a.header) 8 (f a.measure.least) (too-low a.measure.least a.station (omega (arith, c.before.before.before.if1.false)) c.if4.true) (λ z. omega arith))
+    let f : ℕ → ℕ = λ floor. station_fault floor a.station in
+    let w : Header → List ℕ = λ h. entry_bytes h.format (entry_with a.station a.name.now a.primary.now a.alternate.now) in
+    added_not_up f w a.room.now a.len a.header a.first a.measure s.requires.0.fits x (omega (arith, s.requires.0.fits, c.before.if2.false, c.before.before.entry-size.ensures)) 8 (placed_fault a.room.now (a.first + a.measure.size) (w a.header) 8 (f a.measure.least) (too_low a.measure.least a.station (omega (arith, c.before.before.before.if1.false)) c.if4.true) (λ z. omega arith))
 
 add-base : tie.Need-overflow-add-base
 add-base c =
@@ -84,9 +84,9 @@ returns-5 c =
     let s = c.before.before.before.before.before.before.before.before.before in
     let a = s.args in
     let x = standing a.room.now a.len a.header a.first a.measure s.requires.0 (bytes a.room.now (λ i. omega (arith, c.before.before.before.before.before.before.before.before.slice-known.given i))) in
-    let f : ℕ → ℕ = λ floor. stationFault floor a.station in
-    let w : Header → List ℕ = λ h. entryBytes h.format (entryWith a.station a.name.now a.primary.now a.alternate.now) in
-    added-not-up f w a.room.now a.len a.header a.first a.measure s.requires.0.fits x (omega (arith, s.requires.0.fits, c.before.before.if2.false, c.before.before.before.entry-size.ensures)) 9 (placed-short a.room.now (a.first + a.measure.size) (w a.header) (f a.measure.least) (no-fault a.measure.least a.station (omega (arith, c.before.before.before.before.if1.false)) c.before.if4.false) (omega (arith, x.low, s.requires.0.fits, c.if5.true, c.before.before.before.entry-size.ensures)))
+    let f : ℕ → ℕ = λ floor. station_fault floor a.station in
+    let w : Header → List ℕ = λ h. entry_bytes h.format (entry_with a.station a.name.now a.primary.now a.alternate.now) in
+    added_not_up f w a.room.now a.len a.header a.first a.measure s.requires.0.fits x (omega (arith, s.requires.0.fits, c.before.before.if2.false, c.before.before.before.entry-size.ensures)) 9 (placed_short a.room.now (a.first + a.measure.size) (w a.header) (f a.measure.least) (no_fault a.measure.least a.station (omega (arith, c.before.before.before.before.if1.false)) c.before.if4.false) (omega (arith, x.low, s.requires.0.fits, c.if5.true, c.before.before.before.entry-size.ensures)))
 
 close-up-requires : tie.Need-close-up-requires
 close-up-requires c κs =
@@ -106,9 +106,9 @@ returns-6 c =
     let s = c.before.before.before.before.before.before.before.before.before.before.before.before.before.before.before.before.before in
     let a = s.args in
     let x = standing a.room.now a.len a.header a.first a.measure s.requires.0 (bytes a.room.now (λ i. omega (arith, c.before.before.before.before.before.before.before.before.before.before.before.before.before.before.before.before.slice-known.given i))) in
-    let f : ℕ → ℕ = λ floor. stationFault floor a.station in
-    let w : Header → List ℕ = λ h. entryBytes h.format (entryWith a.station a.name.now a.primary.now a.alternate.now) in
-    added-up f w a.room.now a.len a.header a.first a.measure s.requires.0.fits x (omega (arith, s.requires.0.fits, c.before.before.before.before.before.before.before.before.before.before.if2.false, c.before.before.before.before.before.before.before.before.before.before.before.entry-size.ensures)) (no-fault a.measure.least a.station (omega (arith, c.before.before.before.before.before.before.before.before.before.before.before.before.if1.false)) c.before.before.before.before.before.before.before.before.before.if4.false) (omega (arith, x.low, s.requires.0.fits, c.before.before.before.before.before.before.before.before.if5.false, c.before.before.before.before.before.before.before.before.before.before.before.entry-size.ensures)) _ _ c.before.before.before.before.before.before.close_up.ensures _ _ c.before.before.put-entry2.ensures
+    let f : ℕ → ℕ = λ floor. station_fault floor a.station in
+    let w : Header → List ℕ = λ h. entry_bytes h.format (entry_with a.station a.name.now a.primary.now a.alternate.now) in
+    added_up f w a.room.now a.len a.header a.first a.measure s.requires.0.fits x (omega (arith, s.requires.0.fits, c.before.before.before.before.before.before.before.before.before.before.if2.false, c.before.before.before.before.before.before.before.before.before.before.before.entry-size.ensures)) (no_fault a.measure.least a.station (omega (arith, c.before.before.before.before.before.before.before.before.before.before.before.before.if1.false)) c.before.before.before.before.before.before.before.before.before.if4.false) (omega (arith, x.low, s.requires.0.fits, c.before.before.before.before.before.before.before.before.if5.false, c.before.before.before.before.before.before.before.before.before.before.before.entry-size.ensures)) _ _ c.before.before.before.before.before.before.close_up.ensures _ _ c.before.before.put-entry2.ensures
 
 pub add-coded-spec : {M : Type 1} → statement M
 add-coded-spec =

@@ -3,7 +3,7 @@ use mathlib.Core.Path.{sym, ◌∙◌}
 use borrow.Author.Rules.{rules}
 use lib.ListN.{drop}
 use Rattle.header.specs.Head.{known}
-use Rattle.fields.proofs.Told.{value-kept, value-refused, value-passed}
+use Rattle.fields.proofs.Told.{value_kept, value_refused, value_passed}
 use Rattle.header.proofs.known_at.Statement.{statement}
 use Rattle.header.proofs.known_at.Tie as tie
 
@@ -16,11 +16,11 @@ known-at-spec =
     (λ c κs. search rules)
     (λ c.
     let a = c.before.before.before.before.before.before.before.args in
-    value-refused (known a.least a.most) (drop a.at a.s.now) a.at _ _ _ (sym c.before.before.before.before.before.number_at.ensures ∙ c.before.before.before.found.given.1) (sym c.before.known-fault.ensures) c.if1.true)
+    value_refused (known a.least a.most) (drop a.at a.s.now) a.at _ _ _ (sym c.before.before.before.before.before.number_at.ensures ∙ c.before.before.before.found.given.1) (sym c.before.known-fault.ensures) c.if1.true)
     (λ c. search rules)
     (λ c.
     let a = c.before.before.before.before.before.before.before.args in
-    value-kept (known a.least a.most) (drop a.at a.s.now) a.at _ _ (sym c.before.before.before.before.before.number_at.ensures ∙ c.before.before.before.found.given.1) (sym c.before.known-fault.ensures ∙ c.if1.false))
+    value_kept (known a.least a.most) (drop a.at a.s.now) a.at _ _ (sym c.before.before.before.before.before.number_at.ensures ∙ c.before.before.before.found.given.1) (sym c.before.known-fault.ensures ∙ c.if1.false))
     (λ c.
     let a = c.before.before.before.before.before.args in
-    value-passed (known a.least a.most) (drop a.at a.s.now) a.at _ (sym c.before.before.before.number_at.ensures ∙ c.before.found2.given.1)))
+    value_passed (known a.least a.most) (drop a.at a.s.now) a.at _ (sym c.before.before.before.number_at.ensures ∙ c.before.found2.given.1)))

@@ -1,6 +1,6 @@
 -- `header::limit_of` meets its contract.
 use borrow.Author.Rules.{rules}
-use Rattle.header.proofs.Head.{limit-at}
+use Rattle.header.proofs.Head.{limit_at}
 use Rattle.header.proofs.limit_of.Statement.{statement}
 use Rattle.header.proofs.limit_of.Tie as tie
 
@@ -10,4 +10,4 @@ limit-of-spec = tie.close
     (λ c. search rules)
     (λ c. search rules)
     (λ c. search rules)
-    (λ c. limit-at _ c.if1.false))
+    (λ c. limit_at _ c.if1.false))

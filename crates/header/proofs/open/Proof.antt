@@ -2,7 +2,7 @@
 use mathlib.Core.Path.{sym, ◌∙◌}
 use borrow.Author.Rules.{rules}
 use Rattle.header.specs.Head.{formats}
-use Rattle.header.proofs.Opening.{opens, opens-third, opens-second, opens-first}
+use Rattle.header.proofs.Opening.{opens, opens_third, opens_second, opens_first}
 use Rattle.header.proofs.open.Statement.{statement}
 use Rattle.header.proofs.open.Tie as tie
 
@@ -24,10 +24,10 @@ open_spec =
     opens (formats a.least) a.s.now _ _ _ _ _ _ (sym c.before.before.before.before.before.before.before.before.before.before.before.known_at_lem.ensures ∙ c.before.before.before.before.before.before.before.before.before.first.given.1) (sym c.before.before.before.before.before.before.before.known-at2.ensures ∙ c.before.before.before.before.before.second.given.1) (sym c.before.before.before.number_at.ensures ∙ c.before.third.given.1))
     (λ c.
     let a = c.before.before.before.before.before.before.before.before.before.before.before.before.before.args in
-    opens-third (formats a.least) a.s.now _ _ _ _ _ (sym c.before.before.before.before.before.before.before.before.before.before.before.known_at_lem.ensures ∙ c.before.before.before.before.before.before.before.before.before.first.given.1) (sym c.before.before.before.before.before.before.before.known-at2.ensures ∙ c.before.before.before.before.before.second.given.1) (sym c.before.before.before.number_at.ensures ∙ c.before.third2.given.1))
+    opens_third (formats a.least) a.s.now _ _ _ _ _ (sym c.before.before.before.before.before.before.before.before.before.before.before.known_at_lem.ensures ∙ c.before.before.before.before.before.before.before.before.before.first.given.1) (sym c.before.before.before.before.before.before.before.known-at2.ensures ∙ c.before.before.before.before.before.second.given.1) (sym c.before.before.before.number_at.ensures ∙ c.before.third2.given.1))
     (λ c.
     let a = c.before.before.before.before.before.before.before.before.before.args in
-    opens-second (formats a.least) a.s.now _ _ _ (sym c.before.before.before.before.before.before.before.known_at_lem.ensures ∙ c.before.before.before.before.before.first.given.1) (sym c.before.before.before.known-at2.ensures ∙ c.before.second2.given.1))
+    opens_second (formats a.least) a.s.now _ _ _ (sym c.before.before.before.before.before.before.before.known_at_lem.ensures ∙ c.before.before.before.before.before.first.given.1) (sym c.before.before.before.known-at2.ensures ∙ c.before.second2.given.1))
     (λ c.
     let a = c.before.before.before.before.before.args in
-    opens-first (formats a.least) a.s.now _ (sym c.before.before.before.known_at_lem.ensures ∙ c.before.first2.given.1)))
+    opens_first (formats a.least) a.s.now _ (sym c.before.before.before.known_at_lem.ensures ∙ c.before.first2.given.1)))

@@ -3,9 +3,9 @@ use mathlib.Core.Path.{ap, ◌∙◌}
 use borrow.Author.Rules.{rules}
 use lib.ListN.{length}
 use Rattle.chosen.specs.declared.Choice.{Choice}
-use Rattle.book.specs.Book.{readBook}
-use Rattle.join.specs.Join.{joinBy, roomBy}
-use Rattle.telling_books.specs.Numbers.{joinedNumbers}
+use Rattle.book.specs.Book.{read_book}
+use Rattle.join.specs.Join.{join_by, room_by}
+use Rattle.telling_books.specs.Numbers.{joined_numbers}
 use Rattle.joins.proofs.simmerquilt_join.Statement.{statement}
 use Rattle.joins.proofs.simmerquilt_join.Tie as tie
 
@@ -23,6 +23,6 @@ simmerquilt-join-spec =
     let e = c.before.before.before.before.before.before.before.before.before.choice-of.ensures in
     let a = c.before.before.before.before.before.before.before.before.before.before.before.before.before.before.args in (
       c.tell-joined.ensures
-          ∙ ap joinedNumbers (j.answer ∙ ap (λ (d : Choice). joinBy d (length a.scratch.now) (length a.room.now) (readBook a.first.now) (readBook a.second.now)) e),
-      (j.fills ∙ ap (λ (d : Choice). roomBy d (length a.scratch.now) a.room.now (readBook a.first.now) (readBook a.second.now)) e, j.clears),
+          ∙ ap joined_numbers (j.answer ∙ ap (λ (d : Choice). join_by d (length a.scratch.now) (length a.room.now) (read_book a.first.now) (read_book a.second.now)) e),
+      (j.fills ∙ ap (λ (d : Choice). room_by d (length a.scratch.now) a.room.now (read_book a.first.now) (read_book a.second.now)) e, j.clears),
     )))

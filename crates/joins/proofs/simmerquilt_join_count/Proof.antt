@@ -3,9 +3,9 @@ use mathlib.Core.Path.{ap, ◌∙◌}
 use borrow.Author.Rules.{rules}
 use lib.ListN.{length}
 use Rattle.chosen.specs.declared.Choice.{Choice}
-use Rattle.book.specs.Book.{readBook}
-use Rattle.join.specs.Join.{countBy}
-use Rattle.telling_books.specs.Numbers.{joinedNumbers}
+use Rattle.book.specs.Book.{read_book}
+use Rattle.join.specs.Join.{count_by}
+use Rattle.telling_books.specs.Numbers.{joined_numbers}
 use Rattle.joins.proofs.simmerquilt_join_count.Statement.{statement}
 use Rattle.joins.proofs.simmerquilt_join_count.Tie as tie
 
@@ -22,6 +22,6 @@ simmerquilt-join-count-spec =
     let e = c.before.before.before.before.before.before.choice-of.ensures in
     let a = c.before.before.before.before.before.before.before.before.before.before.args in (
       c.tell-joined.ensures
-          ∙ ap joinedNumbers (j.answer ∙ ap (λ (d : Choice). countBy d (length a.scratch.now) a.most (readBook a.first.now) (readBook a.second.now)) e),
+          ∙ ap joined_numbers (j.answer ∙ ap (λ (d : Choice). count_by d (length a.scratch.now) a.most (read_book a.first.now) (read_book a.second.now)) e),
       j.clears,
     )))

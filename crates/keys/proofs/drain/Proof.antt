@@ -4,7 +4,7 @@ use mathlib.Core.Path.{◌≡◌}
 use native.Mathlib.Omega.{arith}
 use borrow.Author.Rules.{rules}
 use lib.ListN.{length, length-drop, length-take}
-use Rattle.lines.proofs.Read.{feed-moves}
+use Rattle.lines.proofs.Read.{feed_moves}
 use Rattle.keys.proofs.drain.Statement.{statement}
 use Rattle.keys.proofs.drain.Tie as tie
 
@@ -50,7 +50,7 @@ add_at c = search rules
 loop-less : tie.Need-loop-smaller invariant-loop decreases-loop
 loop-less c =
     let m = c.before.before.before.before.before in
-    omega (arith, feed-moves m.feed.ensures (omega arith) (simp (length-take, length-drop) (omega arith)))
+    omega (arith, feed_moves m.feed.ensures (omega arith) (simp (length-take, length-drop) (omega arith)))
 
 loop-again : tie.Need-loop-preserved invariant-loop decreases-loop
 loop-again c = search rules

@@ -2,7 +2,7 @@
 use native.Mathlib.Omega.{arith}
 use borrow.Author.Rules.{rules}
 use lib.ListN.{length-take}
-use Rattle.lines.proofs.Read.{finish-fits}
+use Rattle.lines.proofs.Read.{finish_fits}
 use Rattle.keys.proofs.main.Statement.{statement}
 use Rattle.keys.proofs.main.Tie as tie
 
@@ -25,10 +25,10 @@ finish-requires : tie.Need-finish-requires
 finish-requires c κs = search rules
 
 array-share-prefix-last : tie.Need-array-share-prefix-last
-array-share-prefix-last c = finish-fits c.finish.ensures
+array-share-prefix-last c = finish_fits c.finish.ensures
 
 slice-aggregate-put : tie.Need-slice-aggregate-put
-slice-aggregate-put c = simp length-take (omega (arith, finish-fits c.before.finish.ensures))
+slice-aggregate-put c = simp length-take (omega (arith, finish_fits c.before.finish.ensures))
 
 put-requires : tie.Need-put-requires
 put-requires c κs = search rules

@@ -2,12 +2,12 @@
 use mathlib.Core.Path.{refl, sym, ◌∙◌}
 use Rattle.rules.specs.Cond.{holds}
 use Rattle.rules.proofs.Tree.{said, says, texts}
-use Rattle.letters_ch.specs.Trees.{treeCBeforeH}
+use Rattle.letters_ch.specs.Trees.{tree_c_before_h}
 use Rattle.letters_ch.proofs.handle_c_before_h.Statement.{statement}
 use Rattle.letters_ch.proofs.handle_c_before_h.Tie as tie
 
 pub handle-c-before-h-spec : {M : Type 1} → statement M
-unfolding holds treeCBeforeH
+unfolding holds tree_c_before_h
 handle-c-before-h-spec =
     tie.close
     (tie.spec

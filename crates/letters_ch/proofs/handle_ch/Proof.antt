@@ -2,12 +2,12 @@
 use mathlib.Core.Path.{refl}
 use Rattle.rules.specs.Cond.{holds}
 use Rattle.rules.proofs.Tree.{said, says, texts}
-use Rattle.letters_ch.specs.Trees.{treeCH}
+use Rattle.letters_ch.specs.Trees.{tree_ch}
 use Rattle.letters_ch.proofs.handle_ch.Statement.{statement}
 use Rattle.letters_ch.proofs.handle_ch.Tie as tie
 
 pub handle-ch-spec : {M : Type 1} → statement M
-unfolding holds treeCH
+unfolding holds tree_ch
 handle-ch-spec =
     tie.close
     (tie.spec

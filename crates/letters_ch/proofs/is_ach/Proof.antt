@@ -3,8 +3,8 @@
 use mathlib.Core.Path.{refl, sym, ◌∙◌}
 use Rattle.byte.specs.Text.{upper}
 use Rattle.rules.specs.Cond.{holds, plain}
-use Rattle.rules.proofs.Idle.{ach-once}
-use Rattle.letters_ch.proofs.Ach.{ach-no}
+use Rattle.rules.proofs.Idle.{ach_once}
+use Rattle.letters_ch.proofs.Ach.{ach_no}
 use Rattle.letters_ch.proofs.is_ach.Statement.{statement}
 use Rattle.letters_ch.proofs.is_ach.Tie as tie
 
@@ -23,7 +23,7 @@ is-ach-spec =
     let then = i.before.before in
     let args = then.before.before.before.before.args in
     rw (c.behind2.ensures, c.before.before.char-ahead2.ensures, i.char-ahead.ensures, i.before.vowel-behind.ensures, then.before.behind.ensures)
-    (sym (ach-once (upper args.w.now) args.at plain)))
+    (sym (ach_once (upper args.w.now) args.at plain)))
     (λ c.
     let args = c.before.before.before.before.args in
-    ach-no (upper args.w.now) args.at plain (sym c.before.behind.ensures ∙ c.if1.false)))
+    ach_no (upper args.w.now) args.at plain (sym c.before.behind.ensures ∙ c.if1.false)))

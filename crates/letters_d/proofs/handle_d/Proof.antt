@@ -6,13 +6,13 @@ use Rattle.byte.specs.Text.{bytes}
 use Rattle.byte.specs.Vowel.{among}
 use Rattle.rules.specs.Tree.{run}
 use Rattle.rules.proofs.Next.{by_next, is_none}
-use Rattle.letters_d.specs.Trees.{treeD}
-use Rattle.letters_d.proofs.Ways.{ways-D}
+use Rattle.letters_d.specs.Trees.{tree_d}
+use Rattle.letters_d.proofs.Ways.{ways_d}
 use Rattle.letters_d.proofs.handle_d.Statement.{statement}
 use Rattle.letters_d.proofs.handle_d.Tie as tie
 
 pub handle-d-spec : {M : Type 1} → statement M
-unfolding run treeD
+unfolding run tree_d
 handle-d-spec =
     tie.close
     (tie.spec
@@ -21,5 +21,5 @@ handle-d-spec =
     (λ c κs. tt)
     (λ c. c.handle-d-before.ensures)
     (λ c.
-    by_next (λ (x : ℕ). not (among (bytes "DGT") x)) false treeD _ _ _ ways-D
+    by_next (λ (x : ℕ). not (among (bytes "DGT") x)) false tree_d _ _ _ ways_d
     (is_none _ _ (bytes "DGT") refl (sym c.before.before.ahead.ensures ∙ c.before.if1.false)) (λ e. absurd (false≢true e)) c.both.ensures))

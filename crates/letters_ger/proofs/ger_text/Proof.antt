@@ -1,6 +1,6 @@
 -- `letters_ger::ger_text` meets its contract: its window tells all that the condition tells.
 use mathlib.Core.Path.{refl, ◌∙◌}
-use Rattle.letters_ger.proofs.Texts.{ger-told}
+use Rattle.letters_ger.proofs.Texts.{ger_told}
 use Rattle.letters_ger.proofs.ger_text.Statement.{statement}
 use Rattle.letters_ger.proofs.ger_text.Tie as tie
 
@@ -9,4 +9,4 @@ ger-text-spec =
     tie.close
     (tie.spec
     (λ c. refl) (λ c κs. tt)
-    (λ c. c.text-ahead.ensures ∙ ger-told _ _))
+    (λ c. c.text-ahead.ensures ∙ ger_told _ _))

@@ -2,7 +2,7 @@
 use mathlib.Core.Path.{refl}
 use Rattle.rules.specs.Told.{text_of}
 use Rattle.rules.proofs.Told.{exactly}
-use Rattle.letters_gh.proofs.Exact.{exact-parker}
+use Rattle.letters_gh.proofs.Exact.{exact_parker}
 use Rattle.letters_gh.proofs.parker_text.Statement.{statement}
 use Rattle.letters_gh.proofs.parker_text.Tie as tie
 
@@ -16,4 +16,4 @@ parker-text-spec =
     (λ c. refl) (λ c κs. tt)
     (λ c κs. tt)
     (λ c κs. tt)
-    (λ c. exactly _ _ _ _ _ (exact-parker _ _ _) (cc)))
+    (λ c. exactly _ _ _ _ _ (exact_parker _ _ _) (cc)))

@@ -4,7 +4,7 @@ use mathlib.Core.Path.{refl, sym, ap, ◌∙◌}
 use mathlib.Core.Bool.{Bool, not, ◌&&◌}
 use Rattle.byte.specs.Text.{upper}
 use Rattle.rules.specs.Cond.{holds, marked}
-use Rattle.rules.proofs.Idle.{gn-other}
+use Rattle.rules.proofs.Idle.{gn_other_lem}
 use Rattle.letters_gn.proofs.is_gn_other.Statement.{statement}
 use Rattle.letters_gn.proofs.is_gn_other.Tie as tie
 
@@ -17,4 +17,4 @@ is-gn-other-spec =
     (λ c.
     let start = c.before.before.before in
     ap (λ (b : Bool). not b && not start.args.slavo) c.ahead.ensures
-    ∙ sym (gn-other (upper start.args.w.now) start.args.at (marked start.args.slavo) start.requires)))
+    ∙ sym (gn_other_lem (upper start.args.w.now) start.args.at (marked start.args.slavo) start.requires)))

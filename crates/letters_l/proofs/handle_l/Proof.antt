@@ -4,7 +4,7 @@ use Rattle.rules.specs.Cond.{holds}
 use Rattle.rules.specs.Told.{text_of}
 use Rattle.rules.proofs.Tree.{spoken, says, texts}
 use Rattle.letters_l.specs.Trees.{tree_l}
-use Rattle.letters_l.proofs.Ways.{ways-L}
+use Rattle.letters_l.proofs.Ways.{ways_l}
 use Rattle.letters_l.proofs.handle_l.Statement.{statement}
 use Rattle.letters_l.proofs.handle_l.Tie as tie
 
@@ -19,6 +19,6 @@ handle-l-spec =
     (λ c κs. tt)
     (λ c κs. tt)
     (λ c κs. tt)
-    (λ c. spoken ways-L (search (says, texts) depth 14))
-    (λ c. spoken ways-L (search says depth 14))
-    (λ c. spoken ways-L (search says depth 14)))
+    (λ c. spoken ways_l (search (says, texts) depth 14))
+    (λ c. spoken ways_l (search says depth 14))
+    (λ c. spoken ways_l (search says depth 14)))

@@ -1,7 +1,7 @@
 -- `letters_l::l0_text` meets its contract: its window tells all that the condition tells.
 use mathlib.Core.Path.{refl, ◌∙◌}
 use Rattle.rules.specs.Told.{text_of}
-use Rattle.letters_l.proofs.Texts.{l0-told}
+use Rattle.letters_l.proofs.Texts.{l0_told}
 use Rattle.letters_l.proofs.l0_text.Statement.{statement}
 use Rattle.letters_l.proofs.l0_text.Tie as tie
 
@@ -11,4 +11,4 @@ l0-text-spec =
     tie.close
     (tie.spec
     (λ c. refl) (λ c κs. tt)
-    (λ c. c.text-behind.ensures ∙ l0-told _ _ _ c.before.before.before.requires))
+    (λ c. c.text-behind.ensures ∙ l0_told _ _ _ c.before.before.before.requires))

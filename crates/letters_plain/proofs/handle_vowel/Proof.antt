@@ -2,12 +2,12 @@
 use borrow.Author.Tests.{eq-eqb, ne_eqb}
 use Rattle.rules.specs.Cond.{holds}
 use Rattle.rules.specs.Told.{text_of, speaker}
-use Rattle.rules.specs.Plain.{casesVowel}
+use Rattle.rules.specs.Plain.{cases_vowel}
 use Rattle.letters_plain.proofs.handle_vowel.Statement.{statement}
 use Rattle.letters_plain.proofs.handle_vowel.Tie as tie
 
 pub handle-vowel-spec : {M : Type 1} → statement M
-unfolding speaker holds text_of casesVowel
+unfolding speaker holds text_of cases_vowel
 handle-vowel-spec =
     tie.close
     (tie.spec

@@ -4,12 +4,12 @@ use borrow.Author.Rules.{rules}
 use Rattle.rules.specs.Told.{text_of}
 use Rattle.rules.specs.Cond.{holds}
 use Rattle.rules.proofs.Tree.{said, says, texts, tells}
-use Rattle.letters_s_next.specs.Trees.{treeSLast}
+use Rattle.letters_s_next.specs.Trees.{tree_s_last}
 use Rattle.letters_s_next.proofs.handle_s_last.Statement.{statement}
 use Rattle.letters_s_next.proofs.handle_s_last.Tie as tie
 
 pub handle-s-last-spec : {M : Type 1} → statement M
-unfolding holds text_of treeSLast
+unfolding holds text_of tree_s_last
 handle-s-last-spec =
     tie.close
     (tie.spec

@@ -3,12 +3,12 @@ use mathlib.Core.Path.{refl, sym, ◌∙◌}
 use borrow.Author.Rules.{rules}
 use Rattle.rules.specs.Cond.{holds}
 use Rattle.rules.proofs.Tree.{said, says, texts}
-use Rattle.letters_s_next.specs.Trees.{treeSNext}
+use Rattle.letters_s_next.specs.Trees.{tree_s_next}
 use Rattle.letters_s_next.proofs.handle_s_next.Statement.{statement}
 use Rattle.letters_s_next.proofs.handle_s_next.Tie as tie
 
 pub handle-s-next-spec : {M : Type 1} → statement M
-unfolding holds treeSNext
+unfolding holds tree_s_next
 handle-s-next-spec =
     tie.close
     (tie.spec

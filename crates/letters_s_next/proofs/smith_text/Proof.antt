@@ -1,7 +1,7 @@
 -- `letters_s_next::smith_text` meets its contract: its numbers are those of the condition, beside which Z tells nothing more.
 use mathlib.Core.Path.{refl}
 use Rattle.rules.specs.Told.{text_of}
-use Rattle.letters_s_next.proofs.Texts.{smith-z, twice}
+use Rattle.letters_s_next.proofs.Texts.{smith_z, twice}
 use Rattle.letters_s_next.proofs.smith_text.Statement.{statement}
 use Rattle.letters_s_next.proofs.smith_text.Tie as tie
 
@@ -13,4 +13,4 @@ smith-text-spec =
     (λ c. refl) (λ c κs. tt)
     (λ c. refl) (λ c κs. tt)
     (λ c κs. tt)
-    (λ c. twice _ _ _ (cc) (smith-z _ _)))
+    (λ c. twice _ _ _ (cc) (smith_z _ _)))

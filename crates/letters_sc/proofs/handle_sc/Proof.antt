@@ -3,12 +3,12 @@ use mathlib.Core.Path.{refl, sym, ◌∙◌}
 use Rattle.rules.specs.Cond.{holds}
 use Rattle.basics.proofs.Tests.{also}
 use Rattle.rules.proofs.Tree.{said, says, texts}
-use Rattle.letters_sc.specs.Trees.{treeSC}
+use Rattle.letters_sc.specs.Trees.{tree_sc}
 use Rattle.letters_sc.proofs.handle_sc.Statement.{statement}
 use Rattle.letters_sc.proofs.handle_sc.Tie as tie
 
 pub handle-sc-spec : {M : Type 1} → statement M
-unfolding holds treeSC
+unfolding holds tree_sc
 handle-sc-spec =
     tie.close
     (tie.spec

@@ -2,12 +2,12 @@
 use mathlib.Core.Path.{refl}
 use Rattle.rules.specs.Cond.{holds}
 use Rattle.rules.proofs.Tree.{said, says, texts}
-use Rattle.letters_sc.specs.Trees.{treeSCH}
+use Rattle.letters_sc.specs.Trees.{tree_sch}
 use Rattle.letters_sc.proofs.handle_sch.Statement.{statement}
 use Rattle.letters_sc.proofs.handle_sch.Tie as tie
 
 pub handle-sch-spec : {M : Type 1} → statement M
-unfolding holds treeSCH
+unfolding holds tree_sch
 handle-sch-spec =
     tie.close
     (tie.spec

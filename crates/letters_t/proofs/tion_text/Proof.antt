@@ -1,7 +1,7 @@
 -- `letters_t::tion_text` meets its contract: its number is that of the condition.
 use mathlib.Core.Path.{refl, sym, ◌∙◌}
 use Rattle.rules.specs.Told.{text_of}
-use Rattle.rules.proofs.Told.{told-first, told-else, exactly, exact-or, exact-window}
+use Rattle.rules.proofs.Told.{told_first, told_else, exactly, exact_or, exact_window}
 use Rattle.letters_t.proofs.tion_text.Statement.{statement}
 use Rattle.letters_t.proofs.tion_text.Tie as tie
 
@@ -14,7 +14,7 @@ tion-text-spec =
     (λ c. refl) (λ c κs. tt)
     (λ c.
     let e = c.before.text-ahead.ensures in
-    exactly _ _ _ _ _ (exact-or _ _ _ _ _ (exact-window _ _ _ _ _ _) (exact-window _ _ _ _ _ _)) (e ∙ sym (told-first _ _ (λ h. c.if1.true (e ∙ h)))))
+    exactly _ _ _ _ _ (exact_or _ _ _ _ _ (exact_window _ _ _ _ _ _) (exact_window _ _ _ _ _ _)) (e ∙ sym (told_first _ _ (λ h. c.if1.true (e ∙ h)))))
     (λ c.
-    exactly _ _ _ _ _ (exact-or _ _ _ _ _ (exact-window _ _ _ _ _ _) (exact-window _ _ _ _ _ _))
-    (c.text-ahead2.ensures ∙ sym (told-else _ _ (sym c.before.before.before.text-ahead.ensures ∙ c.before.before.if1.false)))))
+    exactly _ _ _ _ _ (exact_or _ _ _ _ _ (exact_window _ _ _ _ _ _) (exact_window _ _ _ _ _ _))
+    (c.text-ahead2.ensures ∙ sym (told_else _ _ (sym c.before.before.before.text-ahead.ensures ∙ c.before.before.if1.false)))))

@@ -3,12 +3,12 @@ use mathlib.Core.Path.{refl}
 use Rattle.rules.specs.Cond.{holds}
 use Rattle.rules.specs.Told.{text_of}
 use Rattle.rules.proofs.Tree.{said, says, texts}
-use Rattle.letters_w.specs.Trees.{treeFirstW}
+use Rattle.letters_w.specs.Trees.{tree_first_w}
 use Rattle.letters_w.proofs.handle_first_w.Statement.{statement}
 use Rattle.letters_w.proofs.handle_first_w.Tie as tie
 
 pub handle-first-w-spec : {M : Type 1} → statement M
-unfolding holds text_of treeFirstW
+unfolding holds text_of tree_first_w
 handle-first-w-spec =
     tie.close
     (tie.spec

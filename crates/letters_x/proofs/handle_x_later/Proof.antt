@@ -4,12 +4,12 @@ use borrow.Author.Rules.{rules}
 use Rattle.rules.specs.Cond.{holds}
 use Rattle.rules.specs.Told.{text_of}
 use Rattle.rules.proofs.Tree.{said, says, tells}
-use Rattle.letters_x.specs.Trees.{treeXLater}
+use Rattle.letters_x.specs.Trees.{tree_x_later}
 use Rattle.letters_x.proofs.handle_x_later.Statement.{statement}
 use Rattle.letters_x.proofs.handle_x_later.Tie as tie
 
 pub handle-x-later-spec : {M : Type 1} → statement M
-unfolding holds text_of treeXLater
+unfolding holds text_of tree_x_later
 handle-x-later-spec =
     tie.close
     (tie.spec

@@ -4,12 +4,12 @@ use borrow.Author.Rules.{rules}
 use Rattle.rules.specs.Cond.{holds}
 use Rattle.rules.specs.Told.{text_of}
 use Rattle.rules.proofs.Tree.{said, says-marked, texts}
-use Rattle.letters_z.specs.Trees.{treeZOther}
+use Rattle.letters_z.specs.Trees.{tree_z_other}
 use Rattle.letters_z.proofs.handle_z_other.Statement.{statement}
 use Rattle.letters_z.proofs.handle_z_other.Tie as tie
 
 pub handle-z-other-spec : {M : Type 1} → statement M
-unfolding holds text_of treeZOther
+unfolding holds text_of tree_z_other
 handle-z-other-spec =
     tie.close
     (tie.spec

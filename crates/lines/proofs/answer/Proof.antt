@@ -8,7 +8,7 @@ use lib.ListN.{length, length-drop, length-take}
 use lib.Seq.{sets}
 use Rattle.line.specs.Line.{line_of, Lies}
 use Rattle.lines.specs.Feed.{hand}
-use Rattle.lines.proofs.Hand.{some-held}
+use Rattle.lines.proofs.Hand.{some_held}
 use Rattle.lines.proofs.answer.Statement.{statement}
 use Rattle.lines.proofs.answer.Tie as tie
 
@@ -24,7 +24,7 @@ entry c = c.before.before.before.before
 
 lies : (c : tie.After-held-line) → (p : List ℕ) × Lies (line_of p) c.held-line.result c.held-line.new.1.1.0
 lies c =
-    let s = some-held (hand (entry c).args.held (entry c).args.word.now) in
+    let s = some_held (hand (entry c).args.held (entry c).args.word.now) in
     (s.0, c.held-line.ensures s.0 s.1)
 
 sub-copy-to : tie.Need-overflow-sub-copy-to

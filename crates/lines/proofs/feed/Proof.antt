@@ -8,7 +8,7 @@ use borrow.Author.Rules.{rules}
 use lib.ListN.{length, take, get_or}
 use Rattle.lines.specs.Feed.{Hand, hand, Holds, next, after, Read}
 use Rattle.lines.proofs.Hand.{holds_at, after_one}
-use Rattle.lines.proofs.Read.{read_none, read-on}
+use Rattle.lines.proofs.Read.{read_none, read_on}
 use Rattle.lines.proofs.feed.Statement.{statement}
 use Rattle.lines.proofs.feed.Tie as tie
 
@@ -73,7 +73,7 @@ loop-again c =
       out-long = s.auto.1.1.1.0 ∙ i.out-long;
       held-is = s.ensures.held ∙ ap (λ (h : Hand). next (get_or a.block.now at.used 0) h) i.held-is ∙ sym (after_one a.block.now at.used inside _);
       read = λ p x.
-          read-on p a.block.now a.out.now at.used inside (hand at.count at.word) at.wrote s.result _ at.out _ (omega (arith, i.out-long))
+          read_on p a.block.now a.out.now at.used inside (hand at.count at.word) at.wrote s.result _ at.out _ (omega (arith, i.out-long))
           (i.read p x) (holds_at p (take at.used a.block.now) (hand a.held a.word.now) (hand at.count at.word) i.held-is (omega (arith, c.before.before.before.before.step-arg.given.0)) x) s.ensures;
     }
 

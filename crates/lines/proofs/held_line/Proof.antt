@@ -7,7 +7,7 @@ use borrow.Author.Rules.{rules}
 use lib.ListN.{length-take}
 use Rattle.line.specs.Line.{line_of}
 use Rattle.line.proofs.Place.{lies_in}
-use Rattle.line.proofs.Line.{too-long-line}
+use Rattle.line.proofs.Line.{too_long_line}
 use Rattle.lines.proofs.held_line.Statement.{statement}
 use Rattle.lines.proofs.held_line.Tie as tie
 
@@ -18,7 +18,7 @@ same_length : tie.Need-same-length
 same_length c = search rules
 
 returns : tie.Need-returns
-returns c = λ p x. lies_in (too-long-line p (x.over c.before.before.before.before.if1.true)) refl c.before.before.refuse.ensures
+returns c = λ p x. lies_in (too_long_line p (x.over c.before.before.before.before.if1.true)) refl c.before.before.refuse.ensures
 
 slice-aggregate-build-line : tie.Need-slice-aggregate-build-line
 slice-aggregate-build-line c = simp length-take (omega arith)

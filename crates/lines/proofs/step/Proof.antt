@@ -1,7 +1,7 @@
 -- `lines::step` meets its contract: byte 10 stores the line of what is held, and any other byte is held.
 use borrow.Author.Rules.{rules}
 use Rattle.lines.specs.Feed.{hand}
-use Rattle.lines.proofs.Read.{stepped-end, stepped-in}
+use Rattle.lines.proofs.Read.{stepped_end, stepped_in}
 use Rattle.lines.proofs.step.Statement.{statement}
 use Rattle.lines.proofs.step.Tie as tie
 
@@ -20,7 +20,7 @@ same-length-2 c = search rules
 returns : tie.Need-returns
 returns c =
     let a = c.before.before.before.before.before.before.before.before.args in
-    stepped-end a.b (hand a.held a.word.now) a.out.now a.wrote c.before.before.answer.result _
+    stepped_end a.b (hand a.held a.word.now) a.out.now a.wrote c.before.before.answer.result _
     c.before.before.before.before.before.if1.true c.before.before.answer.ensures
 
 hold-requires : tie.Need-hold-requires
@@ -32,7 +32,7 @@ same-length-3 c = search rules
 returns-2 : tie.Need-returns-2
 returns-2 c =
     let a = c.before.before.before.before.before.before.before.args in
-    stepped-in a.b (hand a.held a.word.now) a.out.now a.wrote c.before.before.hold.result _
+    stepped_in a.b (hand a.held a.word.now) a.out.now a.wrote c.before.before.hold.result _
     c.before.before.before.before.if1.false c.before.before.hold.ensures
 
 pub step_spec : {M : Type 1} → statement M

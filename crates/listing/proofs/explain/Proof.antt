@@ -6,7 +6,7 @@ use native.Mathlib.Omega.{arith}
 use borrow.Author.Rules.{rules}
 use lib.ListN.{length}
 use Rattle.row.specs.Numbers.{Row}
-use Rattle.listing.specs.Listing.{inRoom, leftIn}
+use Rattle.listing.specs.Listing.{in_room, left_in}
 use Rattle.listing.proofs.Answers as by
 use Rattle.listing.proofs.explain.Statement.{statement}
 use Rattle.listing.proofs.explain.Tie as tie
@@ -44,9 +44,9 @@ returns-2 c =
     let a = (entry (asked k)).args in
     let g = by.answered-fits e _ q _ _ _ f in
     by.listed a.edition a.limit a.word.now a.rows.now (by.asked-known e _ q) g.0 g.1
-    (d.list.ensures.0 ∙ ap (inRoom (length a.rows.now)) (by.answered-visits e _ q _ _ _ f))
+    (d.list.ensures.0 ∙ ap (in_room (length a.rows.now)) (by.answered-visits e _ q _ _ _ f))
     (d.list.ensures.1
-    ∙ ap (λ (rs : List Row). leftIn rs a.rows.now) (by.rows_are e _ q _ _ _ f _ _ t.before.is-second.ensures t.before.before.edition-of.ensures _ t.trimmed.ensures))
+    ∙ ap (λ (rs : List Row). left_in rs a.rows.now) (by.rows_are e _ q _ _ _ f _ _ t.before.is-second.ensures t.before.before.edition-of.ensures _ t.trimmed.ensures))
 
 returns-3 : tie.Need-returns-3
 returns-3 c =
@@ -54,7 +54,7 @@ returns-3 c =
     let e = (asked k).encode-in.ensures in
     let q = k.before.reply.given.1 in
     let a = (entry (asked k)).args in
-    by.too_long a.edition a.limit a.word.now a.rows.now (by.asked-known e _ q) (by.answered-long e _ q c.enum-told2.given.1)
+    by.too_long_lem a.edition a.limit a.word.now a.rows.now (by.asked-known e _ q) (by.answered-long e _ q c.enum-told2.given.1)
 
 returns-4 : tie.Need-returns-4
 returns-4 c =
@@ -64,7 +64,7 @@ returns-4 c =
     let q = k.before.reply.given.1 in
     let a = (entry (asked k)).args in
     let h = by.answered-high e _ q _ m.answer2.given.1 in
-    by.not_ascii a.edition a.limit a.word.now a.rows.now (by.asked-known e _ q) h.0 h.1 _ h.2
+    by.not_ascii_lem a.edition a.limit a.word.now a.rows.now (by.asked-known e _ q) h.0 h.1 _ h.2
 
 returns-5 : tie.Need-returns-5
 returns-5 c =

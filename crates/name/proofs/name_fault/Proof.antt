@@ -1,7 +1,7 @@
 -- `name::name_fault` meets its contract.
 use mathlib.Core.Path.{sym, ◌∙◌}
 use borrow.Author.Rules.{rules}
-use Rattle.name.proofs.Told.{ascii-clean, ascii-bad}
+use Rattle.name.proofs.Told.{ascii_clean, ascii_bad}
 use Rattle.name.proofs.name_fault.Statement.{statement}
 use Rattle.name.proofs.name_fault.Tie as tie
 
@@ -10,5 +10,5 @@ name-fault-spec =
     tie.close
     (tie.spec
     (λ c κs. search rules)
-    (λ c. ascii-clean c.before.before.before.args.w.now (sym c.before.is_ascii.ensures ∙ c.if1.true))
-    (λ c. ascii-bad c.before.before.before.args.w.now (sym c.before.is_ascii.ensures ∙ c.if1.false)))
+    (λ c. ascii_clean c.before.before.before.args.w.now (sym c.before.is_ascii.ensures ∙ c.if1.true))
+    (λ c. ascii_bad c.before.before.before.args.w.now (sym c.before.is_ascii.ensures ∙ c.if1.false)))

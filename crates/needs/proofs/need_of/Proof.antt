@@ -1,12 +1,12 @@
 -- `needs::need_of` meets its contract, since each of its ways is a case of `need_of`.
 use native.Mathlib.Omega.{arith}
 use borrow.Author.Rules.{rules}
-use Rattle.needs.proofs.Needs.{need-none}
+use Rattle.needs.proofs.Needs.{need_none}
 use Rattle.needs.proofs.need_of.Statement.{statement}
 use Rattle.needs.proofs.need_of.Tie as tie
 
 returns : tie.Need-returns
-returns c = need-none c.before.args.limit c.before.args.t c.if1.true
+returns c = need_none c.before.args.limit c.before.args.t c.if1.true
 
 enum_told : tie.Need-enum-told
 enum_told c = search rules

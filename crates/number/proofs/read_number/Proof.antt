@@ -8,7 +8,7 @@ use borrow.Author.Rules.{rules}
 use borrow.Author.Tests.{lt-ltb}
 use lib.ListN.{drop, drop_of_length-le}
 use Rattle.number.specs.declared.Found.TheVariants.{Number}
-use Rattle.number.proofs.Laws.{reads-empty, reads_at, reads_on}
+use Rattle.number.proofs.Laws.{reads_empty, reads_at, reads_on}
 use Rattle.number.proofs.read_number.Statement.{statement}
 use Rattle.number.proofs.read_number.Tie as tie
 
@@ -18,7 +18,7 @@ read-number-spec =
     (tie.spec
     (λ c.
     let a = c.before.before.args in
-    sym (reads-empty 4 true (drop a.at a.s.now) (λ e. omega arith) (drop_of_length-le a.s.now {i = a.at} (omega (arith, c.if1.true)))))
+    sym (reads_empty 4 true (drop a.at a.s.now) (λ e. omega arith) (drop_of_length-le a.s.now {i = a.at} (omega (arith, c.if1.true)))))
     (λ c. search rules)
     (λ c κs. search rules)
     (λ c.

@@ -1,6 +1,6 @@
 -- `number::width` meets its contract: a shift by seven is a division by 128.
 use borrow.Author.Tests.{lt-ltb, le-ltb}
-use Rattle.number.proofs.Laws.{last-group}
+use Rattle.number.proofs.Laws.{last_group}
 use Rattle.number.proofs.width.Statement.{statement}
 use Rattle.number.proofs.width.Tie as tie
 
@@ -15,5 +15,5 @@ width_spec = tie.close
       le-ltb _ _ c.before.before.if1.false,
       le-ltb _ _ c.before.if2.false,
       le-ltb _ _ c.if3.false,
-      last-group,
+      last_group,
     )))

@@ -4,7 +4,7 @@ use mathlib.Core.Path.{ap, sym, ◌∙◌}
 use native.Mathlib.Omega.{arith}
 use borrow.Author.Rules.{rules}
 use Rattle.number.specs.declared.Wrote.TheVariants.{Next}
-use Rattle.number.proofs.Laws.{too_large, no_room, room}
+use Rattle.number.proofs.Laws.{too_large, no_room_lem, room}
 use Rattle.number.proofs.write_number.Statement.{statement}
 use Rattle.number.proofs.write_number.Tie as tie
 
@@ -14,9 +14,9 @@ write-number-spec =
     (tie.spec
     (λ c. let r = too_large c.before.before.args.out.now c.before.before.args.at c.before.before.args.x (omega arith) in (sym r.0, sym r.1))
     (λ c κs. search rules)
-    (λ c. let r = no_room c.before.before.before.before.args.out.now c.before.before.before.before.args.at c.before.before.before.before.args.x (omega arith) (omega (arith, c.before.width.ensures)) in (sym r.0, sym r.1))
+    (λ c. let r = no_room_lem c.before.before.before.before.args.out.now c.before.before.before.before.args.at c.before.before.before.before.args.x (omega arith) (omega (arith, c.before.width.ensures)) in (sym r.0, sym r.1))
     (λ c. search rules)
-    (λ c. let r = no_room c.before.before.before.before.before.args.out.now c.before.before.before.before.before.args.at c.before.before.before.before.before.args.x (omega arith) (omega (arith, c.before.before.width.ensures)) in (sym r.0, sym r.1))
+    (λ c. let r = no_room_lem c.before.before.before.before.before.args.out.now c.before.before.before.before.before.args.at c.before.before.before.before.before.args.x (omega arith) (omega (arith, c.before.before.width.ensures)) in (sym r.0, sym r.1))
     (λ c κs. search rules)
     (λ c. search rules)
     (λ c. search rules)

@@ -2,7 +2,7 @@
 use native.Mathlib.Omega.{arith}
 use borrow.Author.Rules.{rules}
 use lib.ListN.{length-set}
-use Rattle.row.proofs.Stored.{row-stored}
+use Rattle.row.proofs.Stored.{row_stored}
 use Rattle.row.proofs.put_row.Statement.{statement}
 use Rattle.row.proofs.put_row.Tie as tie
 
@@ -10,7 +10,7 @@ returns : tie.Need-returns
 returns c =
     let w = c.before.before.before.before.before in
     let a = w.before.before.before.args in
-    row-stored a.rows.now a.at a.letter a.place a.spoken _ _ _ w.wide.ensures.0 c.before.before.gained.ensures c.before.gained2.ensures
+    row_stored a.rows.now a.at a.letter a.place a.spoken _ _ _ w.wide.ensures.0 c.before.before.gained.ensures c.before.gained2.ensures
 
 pub put-row-spec : {M : Type 1} → statement M
 put-row-spec =

@@ -6,14 +6,14 @@ use native.Mathlib.Omega.{arith}
 use borrow.Author.Rules.{rules}
 use lib.ListN.{length}
 use lib.Seq.{sets}
-use Rattle.row.specs.Numbers.{Row, numbersOf}
-use Rattle.row_writer.specs.Written.{editionIf}
-use Rattle.row_writer.proofs.Written.{Going, going, inside, room_for, turned, all-written, over-is, over-few, fits-row, row_is}
+use Rattle.row.specs.Numbers.{Row, numbers_of}
+use Rattle.row_writer.specs.Written.{edition_if}
+use Rattle.row_writer.proofs.Written.{Going, going, inside, room_for, turned, all_written, over_is, over_few, fits_row, row_is}
 use Rattle.row_writer.proofs.put_rows.Statement.{statement}
 use Rattle.row_writer.proofs.put_rows.Tie as tie
 
 abbrev invariant-loop : tie.invariant-loop
-invariant-loop t second visits rows₀ slavo at₀ k₀ rows at k = Going (editionIf second) t rows₀ rows visits at k
+invariant-loop t second visits rows₀ slavo at₀ k₀ rows at k = Going (edition_if second) t rows₀ rows visits at k
 
 abbrev decreases-loop : tie.decreases-loop
 decreases-loop t second visits rows₀ slavo at₀ k₀ rows at k = visits - k
@@ -21,7 +21,7 @@ decreases-loop t second visits rows₀ slavo at₀ k₀ rows at k = visits - k
 loop-holds : tie.Need-loop-init invariant-loop decreases-loop
 loop-holds c =
     let e = c.before.before.before.before in
-    rw c.start_of_lem.ensures (going (editionIf e.args.second) e.args.t.now e.args.rows.now e.args.visits e.requires.1)
+    rw c.start_of_lem.ensures (going (edition_if e.args.second) e.args.t.now e.args.rows.now e.args.visits e.requires.1)
 
 -- from a visit back to the loop's head and to the entry
 abbrev head : tie.After-visit-at invariant-loop decreases-loop → tie.At-loop invariant-loop decreases-loop
@@ -34,7 +34,7 @@ within : (c : tie.After-visit-at invariant-loop decreases-loop) → (head c).loo
 within c = inside (head c).loop.invariant c.before.loop-test.true
 
 few : (c : tie.After-visit-at invariant-loop decreases-loop) → c.visit-at.result.visit.over ≤ 3
-few c = over-few _ (entry c).args.t.now _ _ _ (head c).before.before.is-slavo-germanic.ensures c.visit-at.ensures
+few c = over_few _ (entry c).args.t.now _ _ _ (head c).before.before.is-slavo-germanic.ensures c.visit-at.ensures
 
 mul-put-row : tie.Need-overflow-mul-put-row invariant-loop decreases-loop
 mul-put-row c =
@@ -49,7 +49,7 @@ put-row-requires c κs =
     let v = c.before.before.before.before in
     let e = entry v in (
       room_for (head v).loop.invariant v.before.loop-test.true e.pre.2,
-      fits-row _ e.args.t.now _ _ _ (head v).before.before.is-slavo-germanic.ensures v.visit-at.ensures (within v) e.pre.0,
+      fits_row _ e.args.t.now _ _ _ (head v).before.before.is-slavo-germanic.ensures v.visit-at.ensures (within v) e.pre.0,
     )
 
 add_at : tie.Need-overflow-add-at invariant-loop decreases-loop
@@ -68,15 +68,15 @@ loop-again c =
     let v = p.before.before.before.before.before in
     let e = entry v in
     let m = (head v).before.before.is-slavo-germanic.ensures in
-    turned (head v).loop.invariant v.before.loop-test.true _ (over-is _ e.args.t.now _ _ _ m v.visit-at.ensures) _
-    (p.put-row.ensures ∙ ap (λ (r : Row). sets (head v).loop.rows (7 * (head v).loop.k) (numbersOf r)) (row_is _ e.args.t.now _ _ _ m v.visit-at.ensures _ p.before.capital.ensures))
+    turned (head v).loop.invariant v.before.loop-test.true _ (over_is _ e.args.t.now _ _ _ m v.visit-at.ensures) _
+    (p.put-row.ensures ∙ ap (λ (r : Row). sets (head v).loop.rows (7 * (head v).loop.k) (numbers_of r)) (row_is _ e.args.t.now _ _ _ m v.visit-at.ensures _ p.before.capital.ensures))
     e.pre.2
 
 same_length : tie.Need-same-length invariant-loop decreases-loop
 same_length c = c.before.loop.invariant.half.long
 
 returns : tie.Need-returns invariant-loop decreases-loop
-returns c = all-written c.before.loop.invariant c.loop-test.false
+returns c = all_written c.before.loop.invariant c.loop-test.false
 
 pub put-rows-spec : {M : Type 1} → statement M
 put-rows-spec =

@@ -1,6 +1,6 @@
 -- `simmerquilt::simmerquilt_encode` meets its contract: it tells what `encode` answers under the host's limit.
 use borrow.Author.Rules.{rules}
-use Rattle.simmerquilt.proofs.Face.{told-encoded}
+use Rattle.simmerquilt.proofs.Face.{told_encoded}
 use Rattle.simmerquilt.proofs.simmerquilt_encode.Statement.{statement}
 use Rattle.simmerquilt.proofs.simmerquilt_encode.Tie as tie
 
@@ -17,4 +17,4 @@ simmerquilt-encode-spec =
     (λ c.
     let e = c.before.before.before.before.before.before in
     let n = e.before.before.before in
-    told-encoded n.new.ensures n.before.limit-of.ensures e.encode.ensures c.tell-answer.ensures))
+    told_encoded n.new.ensures n.before.limit-of.ensures e.encode.ensures c.tell-answer.ensures))

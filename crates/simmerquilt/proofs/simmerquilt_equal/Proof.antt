@@ -3,8 +3,8 @@ use mathlib.Core.Path.{ap, ap₂, ◌∙◌}
 use borrow.Author.Rules.{rules}
 use Rattle.terms.specs.declared.Limit.{Limit}
 use Rattle.chosen.specs.declared.Choice.{Choice}
-use Rattle.equality.specs.Equality.{verdictOf}
-use Rattle.answers.specs.Numbers.{verdictNumbers}
+use Rattle.equality.specs.Equality.{verdict_of}
+use Rattle.answers.specs.Numbers.{verdict_numbers}
 use Rattle.simmerquilt.proofs.simmerquilt_equal.Statement.{statement}
 use Rattle.simmerquilt.proofs.simmerquilt_equal.Tie as tie
 
@@ -20,6 +20,6 @@ simmerquilt-equal-spec =
     let e = c.before.before in
     let a = e.before.before.before.before.before.args in
     c.tell-verdict.ensures
-    ∙ ap verdictNumbers
+    ∙ ap verdict_numbers
     (e.equal.ensures.answer
-    ∙ ap₂ (λ (l : Limit) (d : Choice). verdictOf l d a.first.now a.second.now) e.before.before.limit-of.ensures e.before.choice-of.ensures)))
+    ∙ ap₂ (λ (l : Limit) (d : Choice). verdict_of l d a.first.now a.second.now) e.before.before.limit-of.ensures e.before.choice-of.ensures)))

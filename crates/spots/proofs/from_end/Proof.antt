@@ -1,6 +1,6 @@
 -- `spots::from_end` meets its contract.
 use borrow.Author.Rules.{rules}
-use Rattle.spots.proofs.Spots.{no_end, at-end}
+use Rattle.spots.proofs.Spots.{no_end, at_end}
 use Rattle.spots.proofs.from_end.Statement.{statement}
 use Rattle.spots.proofs.from_end.Tie as tie
 
@@ -11,4 +11,4 @@ from-end-spec =
     (λ c. no_end _ _ _ c.if1.true)
     (λ c. search rules)
     (λ c. search rules)
-    (λ c. at-end _ _ _ c.if1.false))
+    (λ c. at_end _ _ _ c.if1.false))

@@ -4,7 +4,7 @@ use mathlib.Core.Path.{ap}
 use native.Mathlib.Omega.{arith}
 use borrow.Author.Rules.{rules}
 use Rattle.header.specs.Head.{cut_of}
-use Rattle.starting.proofs.New.{started, over-cut}
+use Rattle.starting.proofs.New.{started, over_cut}
 use Rattle.starting.proofs.start.Statement.{statement}
 use Rattle.starting.proofs.start.Tie as tie
 
@@ -17,7 +17,7 @@ start_spec =
     (λ c. search rules)
     (λ c.
     let a = c.before.before.before.before.before.args in
-    over-cut a.limit a.room.now _ c.before.before.limit.given.1 c.if1.true)
+    over_cut a.limit a.room.now _ c.before.before.limit.given.1 c.if1.true)
     (λ c. search rules)
     (λ c. search rules)
     (λ c κs. search rules)

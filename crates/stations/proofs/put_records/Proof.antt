@@ -12,7 +12,7 @@ use Rattle.slices.specs.declared.Span.{Span}
 use Rattle.header.specs.declared.Cursor.{Cursor}
 use Rattle.entry.specs.declared.Step.TheVariants as step
 use Rattle.entry.specs.Entry.{read_entry}
-use Rattle.entry.specs.Told.{stepAt}
+use Rattle.entry.specs.Told.{step_at}
 use Rattle.header.specs.Head.{unknown}
 use Rattle.book.specs.Told.{step_of, next_of, unmeasured}
 use Rattle.book.proofs.Measured.{turn}
@@ -24,7 +24,7 @@ moved : (s : List ℕ) (format edition : ℕ) (c : Cursor) (v : ℕ) (sn sp sa :
     → (c.at < next.at) × (next.at ≤ length s)
 moved s format edition c v sn sp sa next kind e = known (eqb (unknown format edition) 0) refl e
   where
-    go : (b : Bool) → ltb c.at (length s) ≡ b → cond b (stepAt format c.at (read_entry format c.floor (drop c.at s))) step.End ≡ step.Record v sn sp sa next kind
+    go : (b : Bool) → ltb c.at (length s) ≡ b → cond b (step_at format c.at (read_entry format c.floor (drop c.at s))) step.End ≡ step.Record v sn sp sa next kind
         → (c.at < next.at) × (next.at ≤ length s)
     go true h e = let t = turn format s c.at c.floor (ltb-true _ _ h) unmeasured v sn sp sa next kind e in (t.rises, t.within)
     go false h e = let z : ◌≡◌ {A = ℕ} 0 1 = cc in absurd (omega arith)
@@ -68,7 +68,7 @@ add-closed : tie.Need-overflow-add-closed invariant-loop decreases-loop
 add-closed c =
     let n = c.before.before.before.before.before.before in
     let m = moved n.before.before.before.args.s.now n.before.before.before.args.header.format n.before.before.before.args.header.edition n.before.loop.cursor _ _ _ _ _ _ (sym n.next.ensures ∙ c.before.before.before.before.step.given.1) in
-    omega (arith, m.0, m.1, n.before.loop.invariant.0, n.before.loop.invariant.1, c.closed-one.ensures)
+    omega (arith, m.0, m.1, n.before.loop.invariant.0, n.before.loop.invariant.1, c.closed_one_lem.ensures)
 
 loop-less : tie.Need-loop-smaller invariant-loop decreases-loop
 loop-less c =
@@ -80,7 +80,7 @@ loop-again : tie.Need-loop-preserved invariant-loop decreases-loop
 loop-again c =
     let n = c.before.before.before.before.before.before in
     let m = moved n.before.before.before.args.s.now n.before.before.before.args.header.format n.before.before.before.args.header.edition n.before.loop.cursor _ _ _ _ _ _ (sym n.next.ensures ∙ c.before.before.before.before.step.given.1) in
-    (omega (arith, m.0, n.before.loop.invariant.0), omega (arith, n.before.loop.invariant.1, c.closed-one.ensures))
+    (omega (arith, m.0, n.before.loop.invariant.0), omega (arith, n.before.loop.invariant.1, c.closed_one_lem.ensures))
 
 enum_told : tie.Need-enum-told invariant-loop decreases-loop
 enum_told c = search rules

@@ -1,4 +1,4 @@
--- `terms::edition_of` meets its contract: its test is that of `editionOf`.
+-- `terms::edition_of` meets its contract: its test is that of `edition_of`.
 use native.Mathlib.Omega.{arith}
 use borrow.Author.Tests.{eq-eqb, ne_eqb}
 use Rattle.terms.proofs.edition_of.Statement.{statement}

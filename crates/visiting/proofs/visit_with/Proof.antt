@@ -35,7 +35,7 @@ use Rattle.visiting.specs.Visited.{visited}
 use Rattle.visiting.specs.declared.Visited.{Visited}
 use Rattle.visiting.specs.contracts.Visited as VD
 use Rattle.visiting.proofs.Visited.TheLaws as VD'
-use Rattle.visiting.proofs.Lent.{R, S, tally-val, visit-val, word-val, Asked, asked-vals, Word, Limited, limited, given, twice}
+use Rattle.visiting.proofs.Lent.{R, S, tally_val, visit_val, word_val, Asked, asked_vals, Word, Limited, limited, given, twice}
 use Rattle.visiting.specs.contracts.visit_into as into
 use Rattle.visiting.proofs.visit_into.Symbol as into-def
 use Rattle.visiting.proofs.visit_into.Met as into-thm
@@ -66,47 +66,47 @@ abbrev D : RattleType
 D = VD.the_row
 
 abbrev visited-val : Visited → Val
-visited-val d = vstruct (vcons (tally-val d.tally) (vcons (visit-val d.visit) vnil))
+visited-val d = vstruct (vcons (tally_val d.tally) (vcons (visit_val d.visit) vnil))
 
 abbrev stayed : Stays (own.ended).signature.params (own.ended).kept
 stayed =
     (stay_none (λ _. R) yes, (stay_none (λ _. usize) yes, (stay_none_slice (0 ∷ []) tt (plain (λ _. u8)) yes, (stay_none (λ _. usize) yes, (stay_none (λ _. bool) yes, (stay_none (λ _. bool) yes, tt))))))
 
 -- a visit's relation at the machine value that it tells
-visit-is : (v : Visit) (y : Val) → Is S v (y ∷ []) → Is S v (visit-val v ∷ [])
+visit-is : (v : Visit) (y : Val) → Is S v (y ∷ []) → Is S v (visit_val v ∷ [])
 visit-is v y is = LL.owes VT.the_type VT'.the_laws v (LL.owed VT.the_type VT'.the_laws v _ is)
 
-visited-is : (h : Tally) (v : Visit) → Is R h (tally-val h ∷ []) → Is S v (visit-val v ∷ []) → Is D (record { tally = h; visit = v }) (visited-val (record { tally = h; visit = v }) ∷ [])
+visited-is : (h : Tally) (v : Visit) → Is R h (tally_val h ∷ []) → Is S v (visit_val v ∷ []) → Is D (record { tally = h; visit = v }) (visited-val (record { tally = h; visit = v }) ∷ [])
 visited-is h v h-is v-is = LL.owes VD.the_type VD'.the_laws (record { tally = h; visit = v }) (h-is, (v-is, tt))
 
 -- a tally in a local's cell is a tally that lies there, and back
 module _ {M : Type 1} {𝓤 : Ura M} (𝓛 : Logic 𝓤) (h : Tally) (l : ℕ) where
-  part_in : Is R h (tally-val h ∷ []) → ent 𝓤 (sem 𝓛 (fat full_share T'.mir l 0 (tally-val h))) (sem 𝓛 (part_at R full_share h l 0))
+  part_in : Is R h (tally_val h ∷ []) → ent 𝓤 (sem 𝓛 (fat full_share T'.mir l 0 (tally_val h))) (sem 𝓛 (part_at R full_share h l 0))
   unfolding part_of
   part_in is =
-      qed 𝓛 (‵ (fat full_share T'.mir l 0 (tally-val h)) ∷ []) ∵ use1 𝓛 (‵ (cell_at full_share R.mir (tally-val h ∷ []) l 0)) (𝓛.laws.at_raw full_share T'.mir l 0 (tally-val h)) $
+      qed 𝓛 (‵ (fat full_share T'.mir l 0 (tally_val h)) ∷ []) ∵ use1 𝓛 (‵ (cell_at full_share R.mir (tally_val h ∷ []) l 0)) (𝓛.laws.at_raw full_share T'.mir l 0 (tally_val h)) $
       owned ! R (Is R) ((LL.makes T.the_type T'.the_plain) 𝓛) h _ is $ move ! (1 ∷ 0 ∷ []) $ fjoin ! $
-      fpack ! (List Val) (λ vs. fsep (cell_at full_share R.mir vs l 0) (R.own_val h vs)) (tally-val h ∷ []) $ done !
+      fpack ! (List Val) (λ vs. fsep (cell_at full_share R.mir vs l 0) (R.own_val h vs)) (tally_val h ∷ []) $ done !
 
-  part_out : ent 𝓤 (sem 𝓛 (part_at R full_share h l 0)) (sep 𝓤 (sem 𝓛 (fat full_share T'.mir l 0 (tally-val h))) (sem 𝓛 (R.own_val h (tally-val h ∷ []))))
+  part_out : ent 𝓤 (sem 𝓛 (part_at R full_share h l 0)) (sep 𝓤 (sem 𝓛 (fat full_share T'.mir l 0 (tally_val h))) (sem 𝓛 (R.own_val h (tally_val h ∷ []))))
   unfolding part_of
   part_out =
       qed 𝓛 (‵ (part_at R full_share h l 0) ∷ []) ∵ fpick ! (λ vs. fsplit ! $
       spelt ! R (Is R) (shows 𝓛 R) (LL.vals T.the_type T'.the_laws) (LL.tells T.the_type T'.the_laws) full_share h vs l 0 $
-      use1 𝓛 (‵ (fat full_share T'.mir l 0 (tally-val h))) (𝓛.laws.raw_at full_share T'.mir l 0 (tally-val h)) $ frame ! $ done !)
+      use1 𝓛 (‵ (fat full_share T'.mir l 0 (tally_val h))) (𝓛.laws.raw_at full_share T'.mir l 0 (tally_val h)) $ frame ! $ done !)
 
 -- the contract that the proof cites
 abbrev Into : {M : Type 1} {𝓤 : Ura M} (𝓛 : Logic 𝓤) (at_mem : Memory → SProp 𝓤) (run : Routine → Fun 𝓤) → Contract 𝓤
 Into 𝓛 at_mem run = triple_of 𝓛 into.signature (into.spec 𝓛 at_mem run)
 
-module _ {M : Type 1} {𝓤 : Ura M} (𝓛 : Logic 𝓤) (at_mem : Memory → SProp 𝓤) (run : Routine → Fun 𝓤) (κ : Lft) (q : Share) (h : Tally) (n : ℕ) (a : Asked) (h-is : Is R h (tally-val h ∷ [])) (n-fits : n < 2 ^ 64) (word-is : Is (ShrSlice (named 0) κ u8) a.0 (word-val a.0 ∷ [])) (at-fits : a.1.0 < 2 ^ 64) where
+module _ {M : Type 1} {𝓤 : Ura M} (𝓛 : Logic 𝓤) (at_mem : Memory → SProp 𝓤) (run : Routine → Fun 𝓤) (κ : Lft) (q : Share) (h : Tally) (n : ℕ) (a : Asked) (h-is : Is R h (tally_val h ∷ [])) (n-fits : n < 2 ^ 64) (word-is : Is (ShrSlice (named 0) κ u8) a.0 (word_val a.0 ∷ [])) (at-fits : a.1.0 < 2 ^ 64) where
   open 𝓛 use {H, A}
 
   abbrev x : Tally × (ℕ × Asked)
   x = (h, (n, a))
 
   abbrev at : List Val × (List Val × (List Val × (List Val × (List Val × (List Val × Unit {0})))))
-  at = (tally-val h ∷ [], (vint w64 n ∷ [], asked-vals a))
+  at = (tally_val h ∷ [], (vint w64 n ∷ [], asked_vals a))
 
   abbrev Post : Val → SProp 𝓤
   Post = (walk_of 𝓛 own.ended stayed (own.clauses 𝓛 at_mem run)).post (((κ, tt), (q, tt), tt, x, at), tt)
@@ -125,7 +125,7 @@ module _ {M : Type 1} {𝓤 : Ura M} (𝓛 : Logic 𝓤) (at_mem : Memory → SP
     lent_at = record { ref_ptr = (l, 0); ghost_name = δ; now = h }
 
     abbrev to-into : (Into 𝓛 at_mem run).Ghost
-    to-into = (((α ∷ [], (κ, tt)), (full_share, (q, tt)), tt, (lent_at, (n, a)), (vptr l 0 ∷ [], (vint w64 n ∷ [], asked-vals a))), tt)
+    to-into = (((α ∷ [], (κ, tt)), (full_share, (q, tt)), tt, (lent_at, (n, a)), (vptr l 0 ∷ [], (vint w64 n ∷ [], asked_vals a))), tt)
 
     goes-into : h.visits + 1 < 2 ^ 64
         → ent 𝓤 (sep 𝓤 (sep 𝓤 (A.lft (α ∷ []) full_share) (sep 𝓤 (A.lft κ q) (sem 𝓛 ftrue))) (sep 𝓤 (sem 𝓛 ((MutRef (named 0) (α ∷ []) R).own_val lent_at (vptr l 0 ∷ []))) (sem 𝓛 (Word (named 0) κ a)))) ((Into 𝓛 at_mem run).pre to-into)
@@ -140,10 +140,10 @@ module _ {M : Type 1} {𝓤 : Ura M} (𝓛 : Logic 𝓤) (at_mem : Memory → SP
     Said ws r = (ws.0 ≡ counted h n r) × (r ≡ given a)
 
   module _ (C : Calls 𝓤 H) (Λ : Loops 𝓤 H) (fm : FmC 𝓤 H 𝓛.laws C) (known : Triple 𝓤 (C into-def.name) (Into 𝓛 at_mem run)) where
-    walk : h.visits + 1 < 2 ^ 64 → ent 𝓤 (on_entry 𝓛 own.signature (κ, tt) (q, tt) x at) (WpFn 𝓤 H C Λ code.function (tally-val h ∷ vint w64 n ∷ word-val a.0 ∷ vint w64 a.1.0 ∷ vbool a.1.1.0 ∷ vbool a.1.1.1.0 ∷ []) Post)
+    walk : h.visits + 1 < 2 ^ 64 → ent 𝓤 (on_entry 𝓛 own.signature (κ, tt) (q, tt) x at) (WpFn 𝓤 H C Λ code.function (tally_val h ∷ vint w64 n ∷ word_val a.0 ∷ vint w64 a.1.0 ∷ vbool a.1.1.0 ∷ vbool a.1.1.1.0 ∷ []) Post)
     walk room =
         qed 𝓛 ((‵ (flft κ q) ⊛ ‵ ftrue) ∷ ‵ (owns (R ∷ usize ∷ ShrSlice (named 0) κ u8 ∷ usize ∷ bool ∷ bool ∷ []) x at) ∷ []) ∵
-        enter ! C Λ code.function (tally-val h ∷ vint w64 n ∷ word-val a.0 ∷ vint w64 a.1.0 ∷ vbool a.1.1.0 ∷ vbool a.1.1.1.0 ∷ []) _ $
+        enter ! C Λ code.function (tally_val h ∷ vint w64 n ∷ word_val a.0 ∷ vint w64 a.1.0 ∷ vbool a.1.1.0 ∷ vbool a.1.1.1.0 ∷ []) _ $
         alloc1 ! (λ l₀. alloc1 ! (λ l₁. alloc1 ! (λ l₂. alloc1 ! (λ l₃. alloc1 ! (λ l₄. alloc1 ! (λ l₅. alloc1 ! (λ l₆. alloc1 ! (λ l₇. alloc1 ! (λ l₈. alloc1 ! (λ l₉. alloc1 ! (λ l₁₀. alloc0 ! $ params1 ! $
         pass1 ! (init ! 18 refl ((LL.lawful T.the_type T'.the_laws 𝓛).typed h _ h-is).0) $ pass1 ! (init ! 16 refl (tt, record { fits = n-fits })) $ pass1 ! (init ! 14 refl ((shr_slice_Lawful 𝓛 (named 0) κ u8).typed a.0 _ word-is).0) $
         pass1 ! (init ! 12 refl (tt, record { fits = at-fits })) $ pass1 ! (init ! 10 refl (tt, tt)) $ pass1 ! (init ! 8 refl (tt, tt)) $ pass0 ! $
@@ -168,8 +168,8 @@ module _ {M : Type 1} {𝓤 : Ura M} (𝓛 : Logic 𝓤) (at_mem : Memory → SP
         rewrite ! 10 (λ (z : Val). ‵ (fat full_share VT'.mir l₈ 0 z)) (ap only (LL.tells VT.the_type VT'.the_laws r _ is)) refl $ drop ! $
         lft_end ! tt $ move ! (0 ∷ 3 ∷ 2 ∷ []) $ use3 𝓛 (later (‵ (part_at R full_share ws.0 l₇ 0))) (ref_back 𝓛 R (α ∷ []) δ ws.0 l₇ 0) $ await ! tt $
         -- the tally is copied out
-        use1 𝓛 (‵ (fat full_share T'.mir l₇ 0 (tally-val ws.0)) ⊛ ‵ (R.own_val ws.0 (tally-val ws.0 ∷ []))) (part_out 𝓛 ws.0 l₇) $ split ! $
-        move ! (1 ∷ []) $ peeks ! R (Is R) (shows 𝓛 R) ws.0 (tally-val ws.0 ∷ []) (λ t-is. move ! (1 ∷ 0 ∷ []) $
+        use1 𝓛 (‵ (fat full_share T'.mir l₇ 0 (tally_val ws.0)) ⊛ ‵ (R.own_val ws.0 (tally_val ws.0 ∷ []))) (part_out 𝓛 ws.0 l₇) $ split ! $
+        move ! (1 ∷ []) $ peeks ! R (Is R) (shows 𝓛 R) ws.0 (tally_val ws.0 ∷ []) (λ t-is. move ! (1 ∷ 0 ∷ []) $
         -- [_7; what it owns; the token; the word; _10; …; _9; …; _8; …; …; _6; …; _5; …; _4; …; _3; …; _2; …; _1; …; room for _0; …]
         assigns ! (of_opd ! (load ! (from ! (stop !)) (look ! 0 refl))) (from ! (stop !)) (init ! 4 refl ((LL.lawful T.the_type T'.the_laws 𝓛).typed ws.0 _ t-is).0) $
         assigns ! (agg ! (and_then ! (load ! (from ! (stop !)) (look ! 4 refl)) (and_then ! (load ! (from ! (stop !)) (look ! 8 refl)) (no_more !)))) (from ! (stop !))

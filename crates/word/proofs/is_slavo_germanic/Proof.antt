@@ -3,7 +3,7 @@
 use Prim.Native.Nat.{◌-◌}
 use borrow.Author.Rules.{rules}
 use lib.ListN.{length}
-use Rattle.word.proofs.Mark.{Found, scan-start, scan-turn, scan-end}
+use Rattle.word.proofs.Mark.{Found, scan_start, scan_turn, scan_end}
 use Rattle.word.proofs.is_slavo_germanic.Statement.{statement}
 use Rattle.word.proofs.is_slavo_germanic.Tie as tie
 
@@ -19,11 +19,11 @@ is-slavo-germanic-spec =
     (tie.spec
     invariant-loop
     decreases-loop
-    (λ c. scan-start c.args.w.now)
+    (λ c. scan_start c.args.w.now)
     (λ c. search rules)
     (λ c. search rules)
     (λ c. search rules)
     (λ c.
     let h = c.before.before in
-    scan-turn _ _ h.loop.last h.loop.found c.before.loop-test.true (c.shared-slice-known.given h.loop.i).fits h.loop.invariant)
-    (λ c. scan-end _ _ c.before.loop.last _ c.loop-test.false c.before.loop.invariant))
+    scan_turn _ _ h.loop.last h.loop.found c.before.loop-test.true (c.shared-slice-known.given h.loop.i).fits h.loop.invariant)
+    (λ c. scan_end _ _ c.before.loop.last _ c.loop-test.false c.before.loop.invariant))

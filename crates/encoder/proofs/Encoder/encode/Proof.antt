@@ -10,18 +10,18 @@ use lib.ListN.{length}
 use Rattle.terms.specs.declared.Edition.{Edition}
 use Rattle.terms.specs.declared.Limit.{Limit}
 use Rattle.trimming.specs.Trim.{trimmed}
-use Rattle.ascii.specs.High.{isAscii}
-use Rattle.terms.specs.Limits.{wordLimit}
+use Rattle.ascii.specs.High.{is_ascii}
+use Rattle.terms.specs.Limits.{word_limit}
 use Rattle.needs.specs.Needs.{need_of, cap_of}
 use Rattle.trimming.proofs.Trim.{Inner, inner}
-use Rattle.encoder.proofs.Answers.{too_long, not_ascii, primary-short, alternate-short, has_room, coded}
+use Rattle.encoder.proofs.Answers.{too_long_lem, not_ascii_lem, primary_short, alternate_short, has_room, coded}
 use Rattle.encoder.proofs.Encoder.encode.Statement.{statement}
 use Rattle.encoder.proofs.Encoder.encode.Tie as tie
 
 returns : tie.Need-returns
 returns c =
     let a = c.before.before.before.before.args in
-    too_long a.self.edition a.self.limit a.word.now a.primary.now a.alternate.now (omega arith)
+    too_long_lem a.self.edition a.self.limit a.word.now a.primary.now a.alternate.now (omega arith)
 
 is-ascii-requires : tie.Need-is-ascii-requires
 is-ascii-requires c κs = search rules
@@ -32,8 +32,8 @@ first-high-requires c κs = search rules
 returns-2 : tie.Need-returns-2
 returns-2 c =
     let a = c.before.before.before.before.before.before.before.args in
-    not_ascii a.self.edition a.self.limit a.word.now a.primary.now a.alternate.now (omega arith) c.first-high.result
-    c.first-high.ensures (sym c.before.before.is_ascii.ensures ∙ not-true _ c.before.if2.true)
+    not_ascii_lem a.self.edition a.self.limit a.word.now a.primary.now a.alternate.now (omega arith) c.first_high_lem.result
+    c.first_high_lem.ensures (sym c.before.before.is_ascii.ensures ∙ not-true _ c.before.if2.true)
 
 front-requires : tie.Need-front-requires
 front-requires c κs = search rules
@@ -69,10 +69,10 @@ edition c = (entry c).args.self.edition
 abbrev limit : tie.After-need-of → Limit
 limit c = (entry c).args.self.limit
 
-fits : (c : tie.After-need-of) → length (word c) ≤ wordLimit
+fits : (c : tie.After-need-of) → length (word c) ≤ word_limit
 fits c = omega arith
 
-ascii : (c : tie.After-need-of) → isAscii (word c) ≡ true
+ascii : (c : tie.After-need-of) → is_ascii (word c) ≡ true
 ascii c = sym c.before.before.before.before.before.is_ascii.ensures ∙ not-false _ c.before.before.before.before.if2.false
 
 -- the two ends enclose the trimmed word, and `need` is what that needs
@@ -91,13 +91,13 @@ returns-3 : tie.Need-returns-3
 returns-3 c =
     let m = c.before in
     let a = (entry m).args in
-    primary-short (edition m) (limit m) (word m) a.primary.now a.alternate.now (fits m) (ascii m) m.need-of.result (need-is m) c.if3.true
+    primary_short (edition m) (limit m) (word m) a.primary.now a.alternate.now (fits m) (ascii m) m.need-of.result (need-is m) c.if3.true
 
 returns-4 : tie.Need-returns-4
 returns-4 c =
     let m = c.before.before in
     let a = (entry m).args in
-    alternate-short (edition m) (limit m) (word m) a.primary.now a.alternate.now (fits m) (ascii m) m.need-of.result (need-is m)
+    alternate_short (edition m) (limit m) (word m) a.primary.now a.alternate.now (fits m) (ascii m) m.need-of.result (need-is m)
     c.before.if3.false c.if4.true
 
 cap-of-requires : tie.Need-cap-of-requires

@@ -25,7 +25,7 @@ use Rattle.book_laws.proofs.Going.{longer}
 use Rattle.matching.specs.Cut.{clip}
 use Rattle.matching.specs.Pairs.{Coded, pairs}
 use Rattle.two_books.specs.Sides.{bodies, standing, chosen_code, coded_all, join_of, limits_of}
-use Rattle.join_laws.specs.Afresh.{RightUnder, AllRight, edition_in, RightCodes, freshly}
+use Rattle.join_laws.specs.Afresh.{RightUnder, AllRight, edition_in, Right, freshly}
 use Rattle.matching.proofs.Fresh as fresh
 
 -- demand 3: a code under a limit is the unlimited one, cut
@@ -58,7 +58,7 @@ module _ (ed : Edition) (c : Choice) (l : Limit) where
   by_names (r ∷ rs) = ap (λ (ys : List Coded). record { station = r.station; code = code_of ed l c r.name } ∷ ys) (by_names rs)
 
 -- where their editions are the same, which the join asks
-pub join_afresh : (c : Choice) (x y : Book) → x.header.edition ≡ y.header.edition → RightCodes x → RightCodes y
+pub join_afresh : (c : Choice) (x y : Book) → x.header.edition ≡ y.header.edition → Right x → Right y
     → join_of c x y ≡ pairs Whole (freshly (edition_in x) (limits_of x y) c (standing x.records)) (freshly (edition_in x) (limits_of x y) c (standing y.records))
 join_afresh c x y e p q =
     let ed : Edition = edition_in x in
@@ -76,7 +76,7 @@ pub keyed_right : (h : Header) (station : ℕ) (name : List ℕ) → RightUnder 
 unfolding keyed
 keyed_right h station name = record { primary = refl; alternate = refl }
 
-pub start_right : (cut : ℕ) → RightCodes (record { header = new_header cut; records = [] })
+pub start_right : (cut : ℕ) → Right (record { header = new_header cut; records = [] })
 start_right cut = tt
 
 all_more : (ed : Edition) (l : Limit) (es : List Entry) (e : Entry) → AllRight ed l (standing es) → RightUnder ed l e.body → AllRight ed l (standing (es ++ e ∷ []))
@@ -92,7 +92,7 @@ all_more ed l (q ∷ es) e x y = go (is_live q) (λ z. all_more ed l es e z y) x
     go true ih z = (z.0, ih z.1)
     go false ih z = ih z
 
-pub longer_right : (b : Book) (station : ℕ) (name : List ℕ) → RightCodes b → RightCodes (longer b station name)
+pub longer_right : (b : Book) (station : ℕ) (name : List ℕ) → Right b → Right (longer b station name)
 longer_right b station name x =
     all_more (edition_in b) (limit_of b.header.cut) b.records (keyed_entry b.header station name) x (keyed_right b.header station name)
 
@@ -105,10 +105,10 @@ live_live (e ∷ es) = go (is_live e) refl (live_live es)
     go true d ih = ap (λ (t : Bool). cond t (e ∷ live (live es)) (live (live es))) d ∙ ap (λ (l : List Entry). e ∷ l) ih
     go false d ih = ih
 
-pub live_right : (b : Book) → RightCodes b → RightCodes (record { header = b.header; records = live b.records })
+pub live_right : (b : Book) → Right b → Right (record { header = b.header; records = live b.records })
 live_right b x = subst (λ (es : List Entry). AllRight (edition_in b) (limit_of b.header.cut) (bodies es)) (sym (live_live b.records)) x
 
-pub closed_right : (b : Book) (station : ℕ) → RightCodes b → RightCodes (record { header = b.header; records = closed_in station b.records })
+pub closed_right : (b : Book) (station : ℕ) → Right b → Right (record { header = b.header; records = closed_in station b.records })
 closed_right b station x = go b.records x
   where
     ed : Edition

@@ -26,8 +26,8 @@ abbrev pub edition_in : Book → Edition
 edition_in b = edition_of b.header.edition
 
 -- a book whose live records' codes are right under its own edition and cut
-abbrev pub RightCodes : Book → Type 0
-RightCodes b = AllRight (edition_in b) (limit_of b.header.cut) (standing b.records)
+abbrev pub Right : Book → Type 0
+Right b = AllRight (edition_in b) (limit_of b.header.cut) (standing b.records)
 
 -- what a join sees of records whose names are encoded now, whatever codes are stored
 unfoldable pub freshly : Edition → Limit → Choice → List Record → List Coded

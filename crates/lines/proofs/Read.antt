@@ -14,7 +14,7 @@ use Rattle.encoder.specs.Encode.{filled}
 use Rattle.lines.specs.declared.Counts.{Counts}
 use Rattle.lines.specs.declared.Progress.{Progress}
 use Rattle.line.specs.Line.{line_of, line_room}
-use Rattle.lines.specs.Lines.{ended, begun, last, lines_written}
+use Rattle.lines.specs.Lines.{ended, begun, last, written}
 use Rattle.lines.specs.Feed.{Hand, hand, Holds, keep, Read, Fed, Finished}
 use Rattle.lines.specs.Inside.{Answered, Stepped}
 use Rattle.basics.proofs.Sets.{sets_append}
@@ -23,11 +23,11 @@ use Rattle.lines.proofs.Split.{ended_append, written_append}
 use Rattle.lines.proofs.Hand.{some_held, none_held, one_held}
 
 -- what one byte ends
-ends : (p : List ℕ) (b : ℕ) → b ≡ 10 → lines_written (ended p (b ∷ [])) ≡ line_of p
+ends : (p : List ℕ) (b : ℕ) → b ≡ 10 → written (ended p (b ∷ [])) ≡ line_of p
 unfolding ended
 ends p b e = simp (eq-eqb b 10 e) (append-nil (line_of p))
 
-ends_not : (p : List ℕ) (b : ℕ) → (b ≡ 10 → ⊥) → lines_written (ended p (b ∷ [])) ≡ []
+ends_not : (p : List ℕ) (b : ℕ) → (b ≡ 10 → ⊥) → written (ended p (b ∷ [])) ≡ []
 unfolding ended
 ends_not p b n = simp (ne_eqb b 10 n)
 
@@ -47,22 +47,22 @@ stepped_in b h out wrote n word' d k =
     record {
       short = omega arith;
       held = k ∙ rw (ne_eqb b 10 d);
-      long = λ p x. let z : length (lines_written (ended p (b ∷ []))) ≡ 0 = ap length (ends_not p b d) in omega arith;
+      long = λ p x. let z : length (written (ended p (b ∷ []))) ≡ 0 = ap length (ends_not p b d) in omega arith;
       output = λ p x. sym (ap (λ (l : List ℕ). sets out wrote l) (ends_not p b d));
     }
 
 -- one byte more of a block
 module _ (p block out : List ℕ) (used : ℕ) (inside : used < length block) where
   abbrev before : List ℕ
-  before = lines_written (ended p (take used block))
+  before = written (ended p (take used block))
 
   abbrev byte : List ℕ
-  byte = lines_written (ended (begun p (take used block)) (get_or block used 0 ∷ []))
+  byte = written (ended (begun p (take used block)) (get_or block used 0 ∷ []))
 
-  both : lines_written (ended p (take (used + 1) block)) ≡ before ++ byte
+  both : written (ended p (take (used + 1) block)) ≡ before ++ byte
   both =
-      ap (λ (l : List ℕ). lines_written (ended p l)) (ap (λ (k : ℕ). take k block) (add-one used) ∙ take-suc block used 0 inside)
-      ∙ ap lines_written (ended_append p (take used block) (get_or block used 0 ∷ []))
+      ap (λ (l : List ℕ). written (ended p l)) (ap (λ (k : ℕ). take k block) (add-one used) ∙ take-suc block used 0 inside)
+      ∙ ap written (ended_append p (take used block) (get_or block used 0 ∷ []))
       ∙ written_append (ended p (take used block)) (ended (begun p (take used block)) (get_or block used 0 ∷ []))
 
   pub read_on : (h : Hand) (wrote : ℕ) (r : Counts) (word' out₁ out₂ : List ℕ) → wrote + line_room ≤ length out
@@ -82,18 +82,18 @@ module _ (p block out : List ℕ) (used : ℕ) (inside : used < length block) wh
         room = λ k l. go k l (ltb k used) refl;
       }
     where
-      go : (k : ℕ) → k < used + 1 → (t : Bool) → ltb k used ≡ t → length (lines_written (ended p (take k block))) + line_room ≤ length out
+      go : (k : ℕ) → k < used + 1 → (t : Bool) → ltb k used ≡ t → length (written (ended p (take k block))) + line_room ≤ length out
       go k l true t = x.room k (ltb-true k used t)
       go k l false t =
           let e : used ≡ k = omega (arith, ltb-false k used t) in
-          subst (λ (m : ℕ). length (lines_written (ended p (take m block))) + line_room ≤ length out) e (omega (arith, x.wrote_is))
+          subst (λ (m : ℕ). length (written (ended p (take m block))) + line_room ≤ length out) e (omega (arith, x.wrote_is))
 
 pub read_none : (p block out : List ℕ) → Read p block out 0 0 out
 unfolding ended
 read_none p block out = record { wrote_is = refl; output = refl; room = λ k l. absurd (omega arith) }
 
 -- with room for a line, a feed passes at least one byte
-nothing : (p block : List ℕ) (used : ℕ) → used ≡ 0 → length (lines_written (ended p (take used block))) ≡ 0
+nothing : (p block : List ℕ) (used : ℕ) → used ≡ 0 → length (written (ended p (take used block))) ≡ 0
 unfolding ended
 nothing p block used e = rw e
 
@@ -112,8 +112,8 @@ pub finished_none : (h : Hand) (out : List ℕ) → h.count ≡ 0 → Finished h
 finished_none h out e =
     record {
       fits = omega arith;
-      wrote_is = λ p x. sym (ap (λ (q : List ℕ). length (lines_written (last q))) (none_held p h x e));
-      output = λ p x. sym (ap (λ (q : List ℕ). filled (lines_written (last q)) out) (none_held p h x e));
+      wrote_is = λ p x. sym (ap (λ (q : List ℕ). length (written (last q))) (none_held p h x e));
+      output = λ p x. sym (ap (λ (q : List ℕ). filled (written (last q)) out) (none_held p h x e));
     }
 
 pub finished_one : (h : Hand) (out : List ℕ) (n : ℕ) (out' : List ℕ) → word_limit ≤ length h.bytes → line_room ≤ length out → (h.count ≡ 0 → ⊥)
@@ -125,12 +125,12 @@ finished_one h out n out' room fits some a =
       output = λ p x. a.output p x ∙ sets_filled out (line_of p) (omega (arith, a.short, a.long p x)) ∙ sym (ap (λ (l : List ℕ). filled l out) (line p x));
     }
   where
-    line : (p : List ℕ) → Holds p h → lines_written (last p) ≡ line_of p
-    line p x = ap lines_written (one_held p h room x some) ∙ append-nil (line_of p)
+    line : (p : List ℕ) → Holds p h → written (last p) ≡ line_of p
+    line p x = ap written (one_held p h room x some) ∙ append-nil (line_of p)
 
 -- what was written is a part of the output
 pub finish_fits : {h : Hand} {out out' : List ℕ} {n : ℕ} → Finished h out n out' → n ≤ length out'
 finish_fits {h} {out} x =
     let p = some_held h in
-    let code : List ℕ = lines_written (last p.0) in
+    let code : List ℕ = written (last p.0) in
     omega (arith, x.wrote_is p.0 p.1, ap length (x.output p.0 p.1), length-append code (drop (length code) out))

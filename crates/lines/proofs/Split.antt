@@ -7,7 +7,7 @@ use native.Mathlib.Omega.{arith}
 use borrow.Author.Tests.{eqb-true}
 use lib.Dec.{eqb}
 use Rattle.line.specs.Line.{line_of}
-use Rattle.lines.specs.Lines.{ended, begun, lines_written, joined, has_end, some_end, Split}
+use Rattle.lines.specs.Lines.{ended, begun, written, joined, has_end, some_end, Split}
 
 -- either way on after a byte x
 ended_on : (p a b : List ℕ) (x : ℕ) (t : Bool) → eqb x 10 ≡ t → ended [] (a ++ b) ≡ ended [] a ++ ended (begun [] a) b
@@ -33,9 +33,9 @@ unfolding begun
 begun_append p [] b = refl
 begun_append p (x ∷ a) b = begun_on p a b x (eqb x 10) refl (begun_append [] a b) (begun_append (p ++ x ∷ []) a b)
 
-pub written_append : (k l : List (List ℕ)) → lines_written (k ++ l) ≡ lines_written k ++ lines_written l
+pub written_append : (k l : List (List ℕ)) → written (k ++ l) ≡ written k ++ written l
 written_append [] l = refl
-written_append (x ∷ k) l = ap (λ (m : List ℕ). line_of x ++ m) (written_append k l) ∙ sym (append_assoc (line_of x) (lines_written k) (lines_written l))
+written_append (x ∷ k) l = ap (λ (m : List ℕ). line_of x ++ m) (written_append k l) ∙ sym (append_assoc (line_of x) (written k) (written l))
 
 -- ---- the lines, and no others
 or_left : (a b : Bool) → a || b ≡ false → a ≡ false

@@ -5,7 +5,7 @@ use Rattle.std.specs.Prelude.{ℕ, suc, ◌+◌, ◌≤◌, ◌<◌, ◌≡◌, 
 use Rattle.terms.specs.Limits.{word_limit}
 use Rattle.encoder.specs.Encode.{filled}
 use Rattle.lines.specs.declared.Progress.{Progress}
-use Rattle.lines.specs.Lines.{ended, last, lines_written}
+use Rattle.lines.specs.Lines.{ended, last, written}
 use Rattle.line.specs.Line.{line_room}
 
 -- the bytes held of a line: how many, and the buffer they lie in
@@ -35,9 +35,9 @@ after (b ∷ l) h = after l (next b h)
 -- with the line p held, the first `used` bytes of the block were read: what they end is at the front of the output, and before each
 -- of them there was room for a line
 pub record Read (p block out : List ℕ) (used wrote : ℕ) (out' : List ℕ) : Type 0 where
-  pub wrote_is : wrote ≡ length (lines_written (ended p (take used block)))
-  pub output : out' ≡ filled (lines_written (ended p (take used block))) out
-  pub room : (k : ℕ) → k < used → length (lines_written (ended p (take k block))) + line_room ≤ length out
+  pub wrote_is : wrote ≡ length (written (ended p (take used block)))
+  pub output : out' ≡ filled (written (ended p (take used block))) out
+  pub room : (k : ℕ) → k < used → length (written (ended p (take k block))) + line_room ≤ length out
 
 -- what `feed` promises: it stops before the block's end only where there is no room for a line
 pub record Fed (block : List ℕ) (h : Hand) (out : List ℕ) (r : Progress) (word' out' : List ℕ) : Type 0 where
@@ -50,11 +50,11 @@ pub record Fed (block : List ℕ) (h : Hand) (out : List ℕ) (r : Progress) (wo
 -- what `finish` promises: the last line's answer is at the front of the output
 pub record Finished (h : Hand) (out : List ℕ) (n : ℕ) (out' : List ℕ) : Type 0 where
   pub fits : n ≤ line_room
-  pub wrote_is : (p : List ℕ) → Holds p h → n ≡ length (lines_written (last p))
-  pub output : (p : List ℕ) → Holds p h → out' ≡ filled (lines_written (last p)) out
+  pub wrote_is : (p : List ℕ) → Holds p h → n ≡ length (written (last p))
+  pub output : (p : List ℕ) → Holds p h → out' ≡ filled (written (last p)) out
 
 -- blocks were fed one after another, cut anywhere, in any room: what was read of them, what was written, and what is held
-pub data Feeding : List ℕ → List ℕ → Hand → Type 0 where
-  start : (buf : List ℕ) → length buf ≡ word_limit → Feeding [] [] (hand 0 buf)
-  fed : {i o : List ℕ} {h : Hand} {block out word' out' : List ℕ} {r : Progress} → Feeding i o h → Fed block h out r word' out'
-      → Feeding (i ++ take r.used block) (o ++ take r.wrote out') (hand r.held word')
+pub data Run : List ℕ → List ℕ → Hand → Type 0 where
+  start : (buf : List ℕ) → length buf ≡ word_limit → Run [] [] (hand 0 buf)
+  fed : {i o : List ℕ} {h : Hand} {block out word' out' : List ℕ} {r : Progress} → Run i o h → Fed block h out r word' out'
+      → Run (i ++ take r.used block) (o ++ take r.wrote out') (hand r.held word')

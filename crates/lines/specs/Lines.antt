@@ -22,12 +22,12 @@ unfoldable pub lines_of : List ℕ → List (List ℕ)
 lines_of i = ended [] i ++ last (begun [] i)
 
 -- what is written for lines, and for an input
-abbrev pub lines_written : List (List ℕ) → List ℕ
-lines_written [] = []
-lines_written (l ∷ ls) = line_of l ++ lines_written ls
+abbrev pub written : List (List ℕ) → List ℕ
+written [] = []
+written (l ∷ ls) = line_of l ++ written ls
 
 unfoldable pub output_of : List ℕ → List ℕ
-output_of i = lines_written (lines_of i)
+output_of i = written (lines_of i)
 
 -- i is the lines ls, each before a byte 10, and then the rest, and none of them has a byte 10
 abbrev pub joined : List (List ℕ) → List ℕ → List ℕ

@@ -18,7 +18,7 @@ use Rattle.rules.specs.CasesDL.{cases_d, cases_h, cases_j, cases_l}
 use Rattle.rules.specs.CasesG.{cases_g}
 use Rattle.rules.specs.CasesMZ.{cases_m, cases_p, cases_r, cases_t, cases_w, cases_x, cases_z}
 use Rattle.rules.specs.CasesS.{cases_s}
-use Rattle.rules.specs.Table.{table, cases_in, visit, spoken_at}
+use Rattle.rules.specs.Table.{rows, cases_in, visit, spoken_at}
 use Rattle.terms.specs.declared.Edition.{Edition}
 use Rattle.outcome.specs.declared.Visit.{Visit}
 use Rattle.basics.proofs.Every.{every}
@@ -61,18 +61,18 @@ gain_back (a ∷ b ∷ s) e =
 abbrev sounds : Case → Bool
 sounds c = sounding (bytes c.primary) && sounding (bytes c.alternate)
 
-rows_sound : (b : ℕ) → every sounds (cases_in table b) ≡ true
-unfolding table swallows cases_c cases_d cases_g cases_h cases_j cases_l cases_m cases_p cases_r cases_s cases_t cases_w cases_x cases_z cases_vowel cases_rest
-rows_sound b = letter_passes (every sounds) table b refl
+rows_sound : (b : ℕ) → every sounds (cases_in rows b) ≡ true
+unfolding rows swallows cases_c cases_d cases_g cases_h cases_j cases_l cases_m cases_p cases_r cases_s cases_t cases_w cases_x cases_z cases_vowel cases_rest
+rows_sound b = letter_passes (every sounds) rows b refl
 
 module _ (ed : Edition) (t : List ℕ) (p : ℕ) where
   abbrev spoken : Case
-  spoken = the_case (cases_in table (get_or (upper t) p 0)) (spoken_at (upper t) p (mode_of ed t)).case
+  spoken = the_case (cases_in rows (get_or (upper t) p 0)) (spoken_at (upper t) p (mode_of ed t)).case
 
   sound : (sounding (bytes spoken.primary) ≡ true) × (sounding (bytes spoken.alternate) ≡ true)
   sound =
       both (sounding (bytes spoken.primary)) (sounding (bytes spoken.alternate))
-      (every_at sounds (cases_in table (get_or (upper t) p 0)) ((spoken_at (upper t) p (mode_of ed t)).case - 1) refl (rows_sound (get_or (upper t) p 0)))
+      (every_at sounds (cases_in rows (get_or (upper t) p 0)) ((spoken_at (upper t) p (mode_of ed t)).case - 1) refl (rows_sound (get_or (upper t) p 0)))
 
   -- the row's gains are what the walk's rule adds there
   primary_gain : bytes_gained (row_at ed t p).primary ≡ to_primary (rule_of ed t) p

@@ -17,7 +17,7 @@ use Rattle.rules.specs.Cond.{Spot, ahead, back, front, rear, Cond, Mode, always,
 use Rattle.rules.specs.Case.{Case, case, gives}
 use Rattle.outcome.specs.Answers.{or_else}
 use Rattle.rules.specs.Told.{text_of, numbered_from, speaker}
-use Rattle.rules.specs.Table.{table, cases_in, spoken_at}
+use Rattle.rules.specs.Table.{rows, cases_in, spoken_at}
 use Rattle.rows.specs.Speaks.{the_case, Says, Window, as_window, windows_of, Named}
 use Rattle.rules.specs.Plain.{swallows, cases_vowel, cases_rest}
 use Rattle.rules.specs.CasesC.{cases_c}
@@ -134,13 +134,13 @@ module _ (u : List ℕ) (p : ℕ) (m : Mode) where
       }
 
 -- each letter's last case asks nothing
-rows_close : (b : ℕ) → closes (cases_in table b) ≡ true
-unfolding table swallows cases_c cases_d cases_g cases_h cases_j cases_l cases_m cases_p cases_r cases_s cases_t cases_w cases_x cases_z cases_vowel cases_rest
-rows_close b = letter_passes closes table b refl
+rows_close : (b : ℕ) → closes (cases_in rows b) ≡ true
+unfolding rows swallows cases_c cases_d cases_g cases_h cases_j cases_l cases_m cases_p cases_r cases_s cases_t cases_w cases_x cases_z cases_vowel cases_rest
+rows_close b = letter_passes closes rows b refl
 
-pub says : (u : List ℕ) (p : ℕ) (m : Mode) → Says (cases_in table (get_or u p 0)) u p m (spoken_at u p m)
+pub says : (u : List ℕ) (p : ℕ) (m : Mode) → Says (cases_in rows (get_or u p 0)) u p m (spoken_at u p m)
 unfolding spoken_at
-says u p m = numbered_one u p m (cases_in table (get_or u p 0)) _ (speaks_from u p m 1 (cases_in table (get_or u p 0)) (rows_close (get_or u p 0)))
+says u p m = numbered_one u p m (cases_in rows (get_or u p 0)) _ (speaks_from u p m 1 (cases_in rows (get_or u p 0)) (rows_close (get_or u p 0)))
 
 -- ---- the text
 abbrev nowhere : Window
@@ -270,9 +270,9 @@ few_texts_lem (w ∷ ws) (suc i) e = few_texts_lem ws i (both (leb (length w.tex
 abbrev few : List Case → Bool
 few cs = leb (length cs) 18 && every (λ (c : Case). few_texts (windows_of c.when)) cs
 
-rows_few : (b : ℕ) → few (cases_in table b) ≡ true
-unfolding table swallows cases_c cases_d cases_g cases_h cases_j cases_l cases_m cases_p cases_r cases_s cases_t cases_w cases_x cases_z cases_vowel cases_rest
-rows_few b = letter_passes few table b refl
+rows_few : (b : ℕ) → few (cases_in rows b) ≡ true
+unfolding rows swallows cases_c cases_d cases_g cases_h cases_j cases_l cases_m cases_p cases_r cases_s cases_t cases_w cases_x cases_z cases_vowel cases_rest
+rows_few b = letter_passes few rows b refl
 
 pub every_at : (f : Case → Bool) (cs : List Case) (i : ℕ) → f other ≡ true → every f cs ≡ true → f (get_or cs i other) ≡ true
 every_at f [] i o e = o
@@ -281,7 +281,7 @@ every_at f (c ∷ cs) (suc i) o e = every_at f cs i o (both (f c) (every f cs) e
 
 module _ (u : List ℕ) (p : ℕ) (m : Mode) where
   abbrev cases : List Case
-  cases = cases_in table (get_or u p 0)
+  cases = cases_in rows (get_or u p 0)
 
   -- a visit's text is 0, or one of the texts of its case that stands at its window
   pub spoken_text : ((spoken_at u p m).text ≡ 0) ⊎ Named (windows_of (the_case cases (spoken_at u p m).case).when) u p (spoken_at u p m).text

@@ -2,7 +2,7 @@
 use Rattle.std.specs.Prelude.{ℕ, ◌<◌, List, [], ◌∷◌, ◌++◌, map, ◌⊎◌, ◌≡◌, length, get_or}
 use Rattle.byte.specs.Text.{upper}
 use Rattle.rules.specs.Case.{gives}
-use Rattle.rules.specs.Table.{table, cases_in}
+use Rattle.rules.specs.Table.{rows, cases_in}
 use Rattle.terms.specs.declared.Edition.{Edition}
 use Rattle.terms.specs.declared.Limit.{Limit}
 use Rattle.terms.specs.Limits.{clip}
@@ -16,11 +16,11 @@ use Rattle.rows.specs.Speaks.{the_case, Speaks, windows_of, Named}
 pub record Right (ed : Edition) (t : List ℕ) (r : Row) : Type 0 where
   pub inside : r.place < length t
   pub letter : r.letter ≡ get_or (upper t) r.place 0
-  pub case : Speaks (cases_in table r.letter) (upper t) r.place (mode_of ed t) r.case
-  pub text : (r.text ≡ 0) ⊎ Named (windows_of (the_case (cases_in table r.letter) r.case).when) (upper t) r.place r.text
-  pub primary : r.primary ≡ gained (gives (the_case (cases_in table r.letter) r.case)).primary
-  pub alternate : r.alternate ≡ gained (gives (the_case (cases_in table r.letter) r.case)).alternate
-  pub over : r.over ≡ (the_case (cases_in table r.letter) r.case).over
+  pub case : Speaks (cases_in rows r.letter) (upper t) r.place (mode_of ed t) r.case
+  pub text : (r.text ≡ 0) ⊎ Named (windows_of (the_case (cases_in rows r.letter) r.case).when) (upper t) r.place r.text
+  pub primary : r.primary ≡ gained (gives (the_case (cases_in rows r.letter) r.case)).primary
+  pub alternate : r.alternate ≡ gained (gives (the_case (cases_in rows r.letter) r.case)).alternate
+  pub over : r.over ≡ (the_case (cases_in rows r.letter) r.case).over
 
 -- what the rows add to each code, joined
 abbrev pub primary_gains : List Row → List ℕ

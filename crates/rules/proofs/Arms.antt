@@ -22,7 +22,7 @@ use Rattle.rules.specs.Case.{Case, adds}
 use Rattle.outcome.specs.Answers.{spoke}
 use Rattle.rules.specs.Told.{text_of, numbered, speaker}
 use Rattle.rules.specs.Plain.{swallows, cases_vowel, cases_rest}
-use Rattle.rules.specs.Table.{Letter, table, cases_in, spoken_at}
+use Rattle.rules.specs.Table.{Row, rows, cases_in, spoken_at}
 use Rattle.outcome.specs.declared.Spoken.{Spoken}
 use Rattle.rules.proofs.Mode.{asks_cases, Same, same_speaker, told_mark, told_edition, told_none}
 use types.Run.{OneOf}
@@ -61,15 +61,15 @@ one_cased ks y e = is_among (cased ks) y (among_either ks (map (λ (k : ℕ). k 
     by false a b = simp b
 
 -- the byte is a key of no letter: what the last arm of the match knows, with what it knew before in front
-abbrev None : Type 0 → List Letter → ℕ → Type 0
+abbrev None : Type 0 → List Row → ℕ → Type 0
 None N [] y = N
 None N (r ∷ rs) y = None (N × (OneOf (cased (bytes r.keys)) y → ⊥)) rs y
 
-known : (rs : List Letter) (N : Type 0) (y : ℕ) → None N rs y → N
+known : (rs : List Row) (N : Type 0) (y : ℕ) → None N rs y → N
 known [] N y n = n
 known (r ∷ rs) N y n = (known rs (N × (OneOf (cased (bytes r.keys)) y → ⊥)) y n).0
 
-in_none : (rs : List Letter) (N : Type 0) (y : ℕ) → None N rs y → cases_in rs (up y) ≡ cases_rest
+in_none : (rs : List Row) (N : Type 0) (y : ℕ) → None N rs y → cases_in rs (up y) ≡ cases_rest
 unfolding cases_in
 in_none [] N y n = refl
 in_none (r ∷ rs) N y n =
@@ -88,8 +88,8 @@ pub key : (b : ℕ) {y : ℕ} → up b ≡ b → up (b + 32) ≡ b → OneOf (b 
 key b e f (inl h) = ap up h ∙ e
 key b e f (inr h) = ap up h ∙ f
 
-in_vowels : (x : ℕ) → among (bytes "AEIOUY") x ≡ true → cases_in table x ≡ cases_vowel
-unfolding cases_in table
+in_vowels : (x : ℕ) → among (bytes "AEIOUY") x ≡ true → cases_in rows x ≡ cases_vowel
+unfolding cases_in rows
 in_vowels x k = simp k
 
 -- no byte stands past the end, which reads as 0
@@ -108,35 +108,35 @@ module _ (w : List ℕ) (p : ℕ) (m : Mode) (v : Spoken) where
   abbrev x : ℕ
   x = up (get_or w p 0)
 
-  visit_by : (cs : List Case) → cases_in table x ≡ cs → v ≡ speaker (numbered cs) (upper w) p m → v ≡ spoken_at (upper w) p m
+  visit_by : (cs : List Case) → cases_in rows x ≡ cs → v ≡ speaker (numbered cs) (upper w) p m → v ≡ spoken_at (upper w) p m
   unfolding spoken_at
   visit_by cs e h =
-      h ∙ ap (λ (ds : List Case). speaker (numbered ds) (upper w) p m) (sym (ap (cases_in table) (get_d_upper w p) ∙ e))
+      h ∙ ap (λ (ds : List Case). speaker (numbered ds) (upper w) p m) (sym (ap (cases_in rows) (get_d_upper w p) ∙ e))
 
   -- a letter whose rule is told the mode `n`, which has all of `m` that it asks for
-  arm : (i j : Bool) (n : Mode) → Same i j n m → (b : ℕ) → asks_cases i j (cases_in table b) ≡ true → x ≡ b
-      → v ≡ speaker (numbered (cases_in table b)) (upper w) p n → v ≡ spoken_at (upper w) p m
-  arm i j n s b f k h = visit_by (cases_in table b) (ap (cases_in table) k) (h ∙ same_speaker i j (upper w) p n m s (cases_in table b) 1 f)
+  arm : (i j : Bool) (n : Mode) → Same i j n m → (b : ℕ) → asks_cases i j (cases_in rows b) ≡ true → x ≡ b
+      → v ≡ speaker (numbered (cases_in rows b)) (upper w) p n → v ≡ spoken_at (upper w) p m
+  arm i j n s b f k h = visit_by (cases_in rows b) (ap (cases_in rows) k) (h ∙ same_speaker i j (upper w) p n m s (cases_in rows b) 1 f)
 
   -- the mark alone, the edition alone, neither
-  pub arm_marked : (b : ℕ) → asks_cases true false (cases_in table b) ≡ true → x ≡ b → v ≡ speaker (numbered (cases_in table b)) (upper w) p (marked m.mark) → v ≡ spoken_at (upper w) p m
+  pub arm_marked : (b : ℕ) → asks_cases true false (cases_in rows b) ≡ true → x ≡ b → v ≡ speaker (numbered (cases_in rows b)) (upper w) p (marked m.mark) → v ≡ spoken_at (upper w) p m
   arm_marked b f k h = arm true false (marked m.mark) (told_mark m) b f k h
 
-  pub arm_edited : (b : ℕ) → asks_cases false true (cases_in table b) ≡ true → x ≡ b → v ≡ speaker (numbered (cases_in table b)) (upper w) p (edited m.second) → v ≡ spoken_at (upper w) p m
+  pub arm_edited : (b : ℕ) → asks_cases false true (cases_in rows b) ≡ true → x ≡ b → v ≡ speaker (numbered (cases_in rows b)) (upper w) p (edited m.second) → v ≡ spoken_at (upper w) p m
   arm_edited b f k h = arm false true (edited m.second) (told_edition m) b f k h
 
-  pub arm_free : (b : ℕ) → asks_cases false false (cases_in table b) ≡ true → x ≡ b → v ≡ speaker (numbered (cases_in table b)) (upper w) p plain → v ≡ spoken_at (upper w) p m
+  pub arm_free : (b : ℕ) → asks_cases false false (cases_in rows b) ≡ true → x ≡ b → v ≡ speaker (numbered (cases_in rows b)) (upper w) p plain → v ≡ spoken_at (upper w) p m
   arm_free b f k h = arm false false plain (told_none plain m) b f k h
 
   -- one of one sound
-  pub arm_plain : (l : Char) (s : String) → cases_in table (code l) ≡ swallows l s → x ≡ code l
+  pub arm_plain : (l : Char) (s : String) → cases_in rows (code l) ≡ swallows l s → x ≡ code l
       → v ≡ cond (byte_at (upper w) (p + 1) (code l)) (spoke 1 0 (adds s s 1)) (spoke 2 0 (adds s s 0)) → v ≡ spoken_at (upper w) p m
-  arm_plain l s e k h = visit_by (swallows l s) (ap (cases_in table) k ∙ e) (h ∙ swallowed l s (upper w) p m)
+  arm_plain l s e k h = visit_by (swallows l s) (ap (cases_in rows) k ∙ e) (h ∙ swallowed l s (upper w) p m)
 
   pub arm_vowel : OneOf (cased (bytes "AEIOUY")) (get_or w p 0) → v ≡ speaker (numbered cases_vowel) (upper w) p plain → v ≡ spoken_at (upper w) p m
   unfolding cases_vowel up
   arm_vowel k h = visit_by cases_vowel (in_vowels x (every_of (λ (y : ℕ). among (bytes "AEIOUY") (up y)) (cased (bytes "AEIOUY")) (get_or w p 0) refl k)) (h ∙ same_speaker false false (upper w) p plain m (told_none plain m) cases_vowel 1 refl)
 
-  pub arm_rest : None (Unit {0}) table (get_or w p 0) → v ≡ spoke 1 0 (adds "" "" 0) → v ≡ spoken_at (upper w) p m
+  pub arm_rest : None (Unit {0}) rows (get_or w p 0) → v ≡ spoke 1 0 (adds "" "" 0) → v ≡ spoken_at (upper w) p m
   unfolding cases_rest speaker holds text_of
-  arm_rest n h = visit_by cases_rest (in_none table (Unit {0}) (get_or w p 0) n) h
+  arm_rest n h = visit_by cases_rest (in_none rows (Unit {0}) (get_or w p 0) n) h

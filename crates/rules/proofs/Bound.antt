@@ -18,7 +18,7 @@ use Rattle.rules.specs.CasesDL.{cases_d, cases_h, cases_j, cases_l}
 use Rattle.rules.specs.CasesG.{cases_g}
 use Rattle.rules.specs.CasesMZ.{cases_m, cases_p, cases_r, cases_t, cases_w, cases_x, cases_z}
 use Rattle.rules.specs.CasesS.{cases_s}
-use Rattle.rules.specs.Table.{table, cases_in, visit}
+use Rattle.rules.specs.Table.{rows, cases_in, visit}
 use Rattle.rules.specs.Kept.{bytes_of, Short}
 use Rattle.outcome.specs.declared.Add.{Add}
 use Rattle.outcome.specs.declared.Add.TheVariants.{Nothing, One, Two}
@@ -38,9 +38,9 @@ abbrev short : Case → Bool
 short c = leb (length (bytes c.primary)) 2 && (leb (length (bytes c.alternate)) 2 && leb c.over 3)
 
 -- at each case of every byte
-pub texts_short : (b : ℕ) → every short (cases_in table b) ≡ true
-unfolding table swallows cases_c cases_d cases_g cases_h cases_j cases_l cases_m cases_p cases_r cases_s cases_t cases_w cases_x cases_z cases_vowel cases_rest
-texts_short b = letter_passes (every short) table b refl
+pub texts_short : (b : ℕ) → every short (cases_in rows b) ≡ true
+unfolding rows swallows cases_c cases_d cases_g cases_h cases_j cases_l cases_m cases_p cases_r cases_s cases_t cases_w cases_x cases_z cases_vowel cases_rest
+texts_short b = letter_passes (every short) rows b refl
 
 -- ---- what that says of a visit
 add_short : (a : Add) → length (bytes_of a) ≤ 2
@@ -67,5 +67,5 @@ visit_short u p m =
     record {
       primary = add_short (visit u p m).primary;
       alternate = add_short (visit u p m).alternate;
-      over = over_first (cases_in table (get_or u p 0)) (texts_short (get_or u p 0)) u p m;
+      over = over_first (cases_in rows (get_or u p 0)) (texts_short (get_or u p 0)) u p m;
     }

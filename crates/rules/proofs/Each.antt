@@ -9,10 +9,10 @@ use Rattle.byte.specs.Vowel.{among}
 use Rattle.basics.proofs.Tests.{both}
 use Rattle.rules.specs.Case.{Case}
 use Rattle.rules.specs.Plain.{cases_rest}
-use Rattle.rules.specs.Table.{Letter, cases_in}
+use Rattle.rules.specs.Table.{Row, cases_in}
 
 -- the test of a list of cases passes at each letter, and at the rest
-abbrev pub every_letter : (List Case → Bool) → List Letter → Bool
+abbrev pub every_letter : (List Case → Bool) → List Row → Bool
 every_letter f [] = f cases_rest
 every_letter f (r ∷ rs) = f r.cases && every_letter f rs
 
@@ -21,7 +21,7 @@ in_letter f true x y i j = i
 in_letter f false x y i j = j
 
 -- then it passes at the cases of each byte
-pub letter_passes : (f : List Case → Bool) (rs : List Letter) (b : ℕ) → every_letter f rs ≡ true → f (cases_in rs b) ≡ true
+pub letter_passes : (f : List Case → Bool) (rs : List Row) (b : ℕ) → every_letter f rs ≡ true → f (cases_in rs b) ≡ true
 unfolding cases_in
 letter_passes f [] b e = e
 letter_passes f (r ∷ rs) b e =

@@ -20,7 +20,7 @@ use Rattle.rules.specs.CasesG.{cases_g}
 use Rattle.rules.specs.CasesMZ.{cases_m, cases_p, cases_r, cases_t, cases_w, cases_x, cases_z}
 use Rattle.rules.specs.CasesS.{cases_s}
 use Rattle.rules.specs.Dutch.{dutch}
-use Rattle.rules.specs.Table.{Letter, table, cases_in, visit}
+use Rattle.rules.specs.Table.{Row, rows, cases_in, visit}
 use Rattle.outcome.specs.declared.Visit.{Visit}
 use Rattle.rules.proofs.Each.{every_letter}
 use Rattle.rules.proofs.Mode.{asks, asks_cases, Same, same_holds, same_first}
@@ -80,11 +80,11 @@ module _ (w : List ℕ) (no : dutch w ≡ false) (p : ℕ) (b : Bool) where
   c_same = unasked _ _ refl (unasked _ _ refl (unasked _ _ refl (then_same _ _ fourth_same (none_ask _ refl))))
 
   -- letter by letter
-  abbrev AllSame : List Letter → Type 0
+  abbrev AllSame : List Row → Type 0
   AllSame [] = first cases_rest u p m ≡ first cases_rest u p n
   AllSame (r ∷ rs) = (first r.cases u p m ≡ first r.cases u p n) × AllSame rs
 
-  letter_same : (rs : List Letter) → AllSame rs → (x : ℕ) → first (cases_in rs x) u p m ≡ first (cases_in rs x) u p n
+  letter_same : (rs : List Row) → AllSame rs → (x : ℕ) → first (cases_in rs x) u p m ≡ first (cases_in rs x) u p n
   unfolding cases_in
   letter_same [] a x = a
   letter_same (r ∷ rs) a x = by (among (bytes r.keys) x) (letter_same rs a.1 x)
@@ -93,16 +93,16 @@ module _ (w : List ℕ) (no : dutch w ≡ false) (p : ℕ) (b : Bool) where
       by true i = a.0
       by false i = i
 
-  tested : (rs : List Letter) → every_letter (asks_cases true false) rs ≡ true → AllSame rs
+  tested : (rs : List Row) → every_letter (asks_cases true false) rs ≡ true → AllSame rs
   tested [] e = none_ask cases_rest e
   tested (r ∷ rs) e =
       let h = both (asks_cases true false r.cases) (every_letter (asks_cases true false) rs) e in (none_ask r.cases h.0, tested rs h.1)
 
   -- C is the third
-  all_same : AllSame table
-  unfolding table swallows cases_d cases_g cases_h cases_j cases_l cases_m cases_p cases_r cases_s cases_t cases_w cases_x cases_z cases_vowel cases_rest
-  all_same = (none_ask _ refl, (none_ask _ refl, (c_same, tested (drop 3 table) refl)))
+  all_same : AllSame rows
+  unfolding rows swallows cases_d cases_g cases_h cases_j cases_l cases_m cases_p cases_r cases_s cases_t cases_w cases_x cases_z cases_vowel cases_rest
+  all_same = (none_ask _ refl, (none_ask _ refl, (c_same, tested (drop 3 rows) refl)))
 
   pub visit_agrees : visit u p m ≡ visit u p n
   unfolding visit
-  visit_agrees = letter_same table all_same (get_or u p 0)
+  visit_agrees = letter_same rows all_same (get_or u p 0)

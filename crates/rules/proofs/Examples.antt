@@ -19,7 +19,7 @@ use Rattle.rules.specs.CasesDL.{cases_d, cases_h, cases_j, cases_l}
 use Rattle.rules.specs.CasesG.{cases_g}
 use Rattle.rules.specs.CasesMZ.{cases_m, cases_p, cases_r, cases_t, cases_w, cases_x, cases_z}
 use Rattle.rules.specs.CasesS.{cases_s}
-use Rattle.rules.specs.Table.{Letter, table, cases_in, visit}
+use Rattle.rules.specs.Table.{Row, rows, cases_in, visit}
 use Rattle.outcome.specs.declared.Visit.{Visit}
 
 -- a word, a place in it, the word's Slavo-Germanic mark, and what the visit there adds to each code and passes over
@@ -110,7 +110,7 @@ unfoldable pub answered : Seen → Visit
 answered s = adds s.primary s.alternate s.over
 
 pub as_the_rust : map defined examples ≡ map answered examples
-unfolding defined answered examples visit first holds table cases_in swallows cases_c cases_d cases_g cases_h cases_j cases_l cases_m cases_p cases_r cases_s cases_t cases_w cases_x cases_z cases_vowel cases_rest up upper is_at sees byte_at vowel vowel_at ends_after is_long same
+unfolding defined answered examples visit first holds rows cases_in swallows cases_c cases_d cases_g cases_h cases_j cases_l cases_m cases_p cases_r cases_s cases_t cases_w cases_x cases_z cases_vowel cases_rest up upper is_at sees byte_at vowel vowel_at ends_after is_long same
 as_the_rust = refl
 
 -- edition 2: Van and Von before CH, and what is not so before it
@@ -127,7 +127,7 @@ unfoldable pub defined2 : Seen → Visit
 defined2 s = visit (upper (bytes s.word)) s.place (edited true)
 
 pub as_edition_2 : map defined2 examples2 ≡ map answered examples2
-unfolding defined2 answered examples2 visit first holds table cases_in swallows cases_c cases_vowel cases_rest up upper is_at sees byte_at vowel vowel_at ends_after is_long same
+unfolding defined2 answered examples2 visit first holds rows cases_in swallows cases_c cases_vowel cases_rest up upper is_at sees byte_at vowel vowel_at ends_after is_long same
 as_edition_2 = refl
 
 -- ---- the cases of the rest, of the vowels, of B, C, D, .. Z
@@ -136,12 +136,12 @@ sum [] = 0
 sum (n ∷ ns) = n + sum ns
 
 unfoldable pub counts : List ℕ
-counts = length cases_rest ∷ map (λ (r : Letter). length r.cases) table
+counts = length cases_rest ∷ map (λ (r : Row). length r.cases) rows
 
 pub counted : counts ≡ 1 ∷ 2 ∷ 2 ∷ 18 ∷ 4 ∷ 2 ∷ 17 ∷ 2 ∷ 12 ∷ 2 ∷ 3 ∷ 2 ∷ 2 ∷ 3 ∷ 2 ∷ 4 ∷ 18 ∷ 5 ∷ 2 ∷ 6 ∷ 5 ∷ 5 ∷ []
-unfolding counts table swallows cases_c cases_d cases_g cases_h cases_j cases_l cases_m cases_p cases_r cases_s cases_t cases_w cases_x cases_z cases_vowel cases_rest
+unfolding counts rows swallows cases_c cases_d cases_g cases_h cases_j cases_l cases_m cases_p cases_r cases_s cases_t cases_w cases_x cases_z cases_vowel cases_rest
 counted = refl
 
 pub counted_all : sum counts ≡ 119
-unfolding sum counts table swallows cases_c cases_d cases_g cases_h cases_j cases_l cases_m cases_p cases_r cases_s cases_t cases_w cases_x cases_z cases_vowel cases_rest
+unfolding sum counts rows swallows cases_c cases_d cases_g cases_h cases_j cases_l cases_m cases_p cases_r cases_s cases_t cases_w cases_x cases_z cases_vowel cases_rest
 counted_all = refl

@@ -28,7 +28,7 @@ use Rattle.rules.specs.CasesDL.{cases_d, cases_h, cases_j, cases_l}
 use Rattle.rules.specs.CasesG.{cases_g}
 use Rattle.rules.specs.CasesMZ.{cases_m, cases_p, cases_r, cases_t, cases_w, cases_x, cases_z}
 use Rattle.rules.specs.CasesS.{cases_s}
-use Rattle.rules.specs.Table.{table, cases_in, visit}
+use Rattle.rules.specs.Table.{rows, cases_in, visit}
 use Rattle.rules.specs.Kept.{bytes_of, AtFront}
 use Rattle.rules.proofs.Each.{letter_passes}
 
@@ -383,10 +383,10 @@ module _ (u : List ℕ) (m : Mode) where
       (λ g. first_front (c.when ∷ ds) cs (e, n) g))
 
 -- the table passes the test
-table_opens : (b : ℕ) → opens [] (cases_in table b) ≡ true
-unfolding table swallows cases_c cases_d cases_g cases_h cases_j cases_l cases_m cases_p cases_r cases_s cases_t cases_w cases_x cases_z cases_vowel cases_rest same
-table_opens b = letter_passes (opens []) table b refl
+table_opens : (b : ℕ) → opens [] (cases_in rows b) ≡ true
+unfolding rows swallows cases_c cases_d cases_g cases_h cases_j cases_l cases_m cases_p cases_r cases_s cases_t cases_w cases_x cases_z cases_vowel cases_rest same
+table_opens b = letter_passes (opens []) rows b refl
 
 pub visit_front : (u : List ℕ) (m : Mode) → AtFront (length u) (visit u 0 m)
 unfolding visit
-visit_front u m = first_front u m [] (cases_in table (get_or u 0 0)) tt (table_opens (get_or u 0 0))
+visit_front u m = first_front u m [] (cases_in rows (get_or u 0 0)) tt (table_opens (get_or u 0 0))

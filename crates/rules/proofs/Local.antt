@@ -25,7 +25,7 @@ use Rattle.rules.specs.CasesDL.{cases_d, cases_h, cases_j, cases_l}
 use Rattle.rules.specs.CasesG.{cases_g}
 use Rattle.rules.specs.CasesMZ.{cases_m, cases_p, cases_r, cases_t, cases_w, cases_x, cases_z}
 use Rattle.rules.specs.CasesS.{cases_s}
-use Rattle.rules.specs.Table.{table, cases_in, visit}
+use Rattle.rules.specs.Table.{rows, cases_in, visit}
 use Rattle.outcome.specs.declared.Visit.{Visit}
 use Rattle.basics.proofs.Every.{every}
 use Rattle.rules.proofs.Each.{letter_passes}
@@ -209,13 +209,13 @@ module _ (u v : List ℕ) (p : ℕ) (a : Agree u v p) (h : 0 < p) (m : Mode) whe
       ap₂ (λ (t : Bool) (r : Visit). cond t (gives c) r) (holds_same c.when b.0) (first_same cs b.1)
 
 -- the table passes the test
-table_near : (b : ℕ) → every near_case (cases_in table b) ≡ true
-unfolding table swallows cases_c cases_d cases_g cases_h cases_j cases_l cases_m cases_p cases_r cases_s cases_t cases_w cases_x cases_z cases_vowel cases_rest
-table_near b = letter_passes (every near_case) table b refl
+table_near : (b : ℕ) → every near_case (cases_in rows b) ≡ true
+unfolding rows swallows cases_c cases_d cases_g cases_h cases_j cases_l cases_m cases_p cases_r cases_s cases_t cases_w cases_x cases_z cases_vowel cases_rest
+table_near b = letter_passes (every near_case) rows b refl
 
 -- L8, for one visit
 pub visit_same : (u v : List ℕ) (p : ℕ) → Agree u v p → 0 < p → (m : Mode) → visit u p m ≡ visit v p m
 unfolding visit
 visit_same u v p a h m =
-    first_same u v p a h m (cases_in table (get_or u p 0)) (table_near (get_or u p 0))
-    ∙ ap (λ (b : ℕ). first (cases_in table b) v p m) (a.about p (omega arith) (omega arith))
+    first_same u v p a h m (cases_in rows (get_or u p 0)) (table_near (get_or u p 0))
+    ∙ ap (λ (b : ℕ). first (cases_in rows b) v p m) (a.about p (omega arith) (omega arith))

@@ -21,7 +21,7 @@ use Rattle.terms.specs.Editions.{is_second}
 use Rattle.rules.specs.Case.{adds, first}
 use Rattle.rules.specs.Plain.{swallows}
 use Rattle.rules.specs.CasesMZ.{cases_x, cases_z}
-use Rattle.rules.specs.Table.{table, cases_in, visit}
+use Rattle.rules.specs.Table.{rows, cases_in, visit}
 use Rattle.rules.specs.Kept.{bytes_of}
 use Rattle.terms.specs.declared.Edition.{Edition}
 use Rattle.outcome.specs.declared.Visit.{Visit}
@@ -133,7 +133,7 @@ back_sees_no u p k n j y ts l g d = back_no p k (λ (q : ℕ). sees u q n ts) (�
 -- an X behind place 0 that no U stands before, and no C or X behind, adds KS
 x_visit : (ed : Edition) (u : List ℕ) (k x y : ℕ) → get_or u (suc k) 0 ≡ 88 → get_or u (suc (suc k)) 0 ≡ x → differ x 0 (map bytes ("C" ∷ "X" ∷ [])) ≡ true
     → get_or u k 0 ≡ y → eqb y 85 ≡ false → Twofold (visit u (suc k) (mode true (is_second ed)))
-unfolding visit first holds table cases_in cases_x
+unfolding visit first holds rows cases_in cases_x
 x_visit ed u k x y here next d last e =
     let n : sees u (suc k + 1) 1 (map bytes ("C" ∷ "X" ∷ [])) ≡ false =
     sees_no u (suc k + 1) 1 0 x (map bytes ("C" ∷ "X" ∷ [])) (omega arith) (let z : suc k + 1 + 0 ≡ suc (suc k) = omega arith in rw z next) d in
@@ -147,7 +147,7 @@ x_visit ed u k x y here next d last e =
 -- under the mark a Z behind place 0 that no T stands before, and no H or Z behind, adds TS to the alternate code
 z_visit : (ed : Edition) (u : List ℕ) (k x : ℕ) → get_or u (suc k) 0 ≡ 90 → get_or u (suc (suc k)) 0 ≡ x → eqb x 72 ≡ false → eqb x 90 ≡ false
     → get_or u k 0 ≡ 88 → Twofold (visit u (suc k) (mode true (is_second ed)))
-unfolding visit first holds table cases_in cases_z
+unfolding visit first holds rows cases_in cases_z
 z_visit ed u k x here next h z last =
     let s : suc k + 1 ≡ suc (suc k) = omega arith in
     let no_h : byte_at u (suc k + 1) 72 ≡ false = byte_no u (suc k + 1) 72 x (rw s next) h in
@@ -158,7 +158,7 @@ z_visit ed u k x here next h z last =
 
 -- the K at place 0 that no K stands behind adds K
 k_visit : (ed : Edition) (u : List ℕ) (x : ℕ) → get_or u 0 0 ≡ 75 → get_or u 1 0 ≡ x → eqb x 75 ≡ false → visit u 0 (mode true (is_second ed)) ≡ adds "K" "K" 0
-unfolding visit first holds table cases_in swallows
+unfolding visit first holds rows cases_in swallows
 k_visit ed u x here next e =
     let n : byte_at u (0 + 1) 75 ≡ false = byte_no u (0 + 1) 75 x next e in
     rw here (simp n)

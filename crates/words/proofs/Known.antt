@@ -17,7 +17,7 @@ use Rattle.rules.specs.CasesDL.{cases_d, cases_h, cases_j, cases_l}
 use Rattle.rules.specs.CasesG.{cases_g}
 use Rattle.rules.specs.CasesMZ.{cases_m, cases_p, cases_r, cases_t, cases_w, cases_x, cases_z}
 use Rattle.rules.specs.CasesS.{cases_s}
-use Rattle.rules.specs.Table.{table, cases_in, visit}
+use Rattle.rules.specs.Table.{rows, cases_in, visit}
 use Rattle.word.specs.Mark.{begins_one, has_one, slavo_germanic}
 use Rattle.word.specs.Start.{start_of}
 use Rattle.walk.specs.Word.{visits_of}
@@ -83,11 +83,11 @@ unfoldable pub names2 : List Known
 names2 = known "Van Chi" Whole "FNK" "FNK" 6 ∷ others
 
 pub names_known : map (defined E1) names ≡ map given names
-unfolding defined given names others primary_of alternate_of trimmed visits_of start_of begins_one has_one slavo_germanic visit first holds table cases_in swallows cases_c cases_d cases_g cases_h cases_j cases_l cases_m cases_p cases_r cases_s cases_t cases_w cases_x cases_z cases_vowel cases_rest up upper is_at sees byte_at vowel vowel_at ends_after is_long same
+unfolding defined given names others primary_of alternate_of trimmed visits_of start_of begins_one has_one slavo_germanic visit first holds rows cases_in swallows cases_c cases_d cases_g cases_h cases_j cases_l cases_m cases_p cases_r cases_s cases_t cases_w cases_x cases_z cases_vowel cases_rest up upper is_at sees byte_at vowel vowel_at ends_after is_long same
 names_known = refl
 
 pub names2_known : map (defined E2) names2 ≡ map given names2
-unfolding defined given names2 others primary_of alternate_of trimmed visits_of start_of begins_one has_one slavo_germanic visit first holds table cases_in swallows cases_c cases_d cases_g cases_h cases_j cases_l cases_m cases_p cases_r cases_s cases_t cases_w cases_x cases_z cases_vowel cases_rest up upper is_at sees byte_at vowel vowel_at ends_after is_long same
+unfolding defined given names2 others primary_of alternate_of trimmed visits_of start_of begins_one has_one slavo_germanic visit first holds rows cases_in swallows cases_c cases_d cases_g cases_h cases_j cases_l cases_m cases_p cases_r cases_s cases_t cases_w cases_x cases_z cases_vowel cases_rest up upper is_at sees byte_at vowel vowel_at ends_after is_long same
 names2_known = refl
 
 -- a full primary code alone does not end the walk; both codes full end it; the last J's space counts; blanks go and 28 stays
@@ -102,7 +102,7 @@ edges =
     ∷ []
 
 pub edges_known : map (defined E1) edges ≡ map given edges
-unfolding defined given edges primary_of alternate_of trimmed visits_of start_of begins_one has_one slavo_germanic visit first holds table cases_in swallows cases_c cases_d cases_g cases_h cases_j cases_l cases_m cases_p cases_r cases_s cases_t cases_w cases_x cases_z cases_vowel cases_rest up upper is_at sees byte_at vowel vowel_at ends_after is_long same
+unfolding defined given edges primary_of alternate_of trimmed visits_of start_of begins_one has_one slavo_germanic visit first holds rows cases_in swallows cases_c cases_d cases_g cases_h cases_j cases_l cases_m cases_p cases_r cases_s cases_t cases_w cases_x cases_z cases_vowel cases_rest up upper is_at sees byte_at vowel vowel_at ends_after is_long same
 edges_known = refl
 
 -- KXZ with no limit takes buffers of 5 and refuses 4, also the primary one, though its code has 4
@@ -110,5 +110,5 @@ unfoldable pub kxz : ℕ → ℕ → Answer
 kxz m n = answer_of E1 Whole (bytes "KXZ") m n
 
 pub kxz_room : (kxz 5 5 ∷ kxz 4 5 ∷ kxz 5 4 ∷ []) ≡ (Coded 4 5 3 ∷ PrimaryShort ∷ AlternateShort ∷ [])
-unfolding kxz primary_of alternate_of trimmed visits_of start_of begins_one has_one slavo_germanic visit first holds table cases_in swallows cases_c cases_d cases_g cases_h cases_j cases_l cases_m cases_p cases_r cases_s cases_t cases_w cases_x cases_z cases_vowel cases_rest up upper is_at sees byte_at vowel vowel_at ends_after is_long same
+unfolding kxz primary_of alternate_of trimmed visits_of start_of begins_one has_one slavo_germanic visit first holds rows cases_in swallows cases_c cases_d cases_g cases_h cases_j cases_l cases_m cases_p cases_r cases_s cases_t cases_w cases_x cases_z cases_vowel cases_rest up upper is_at sees byte_at vowel vowel_at ends_after is_long same
 kxz_room = refl

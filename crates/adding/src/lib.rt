@@ -1,6 +1,8 @@
 // A record added to a station key book in lent room, which is read first, and closed up where it must be. A fault is document 02's number: the
 // reader's; 1, 2, 5 and 8 of a new record, and 9 where the room is too short for it even when the book is closed up. A refusal changes
 // nothing.
+#![tactic(auto)]
+
 ghost use Rattle.fitting.specs.Base.{Stands};
 ghost use Rattle.adding.specs.Adding.{Added};
 

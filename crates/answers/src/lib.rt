@@ -1,4 +1,6 @@
 // What the encoder and the equality question answer, and each answer as a host's numbers.
+#![tactic(auto)]
+
 ghost use Rattle.std.specs.Prelude.{◌≡◌};
 ghost use Rattle.answers.specs.Numbers.{answer_numbers, reply_numbers, verdict_numbers};
 

@@ -1,5 +1,7 @@
 // Going on with a station key book from a known good end, in lent room. A fault is document 02's number, 9 that the lent room is too short for the
 // result; a refusal changes nothing. crates/adding adds to a book that it reads first.
+#![tactic(auto)]
+
 ghost use Rattle.std.specs.Prelude.{◌≡◌, ◌+◌, ◌≤◌, leb, length};
 ghost use Rattle.putting.specs.Laid.{Placed};
 ghost use Rattle.placing.specs.Placing.{floor_where};

@@ -1,4 +1,6 @@
 // Whether a word is ASCII, and the place of its first byte that is not.
+#![tactic(auto)]
+
 ghost use Rattle.std.specs.Prelude.{◌≡◌};
 ghost use Rattle.ascii.specs.High.{is_ascii, first_high};
 

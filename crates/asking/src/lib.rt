@@ -1,4 +1,6 @@
 // A host's numbers as a limit and a choice.
+#![tactic(auto)]
+
 ghost use Rattle.std.specs.Prelude.{◌≡◌};
 ghost use Rattle.asking.specs.Asked.{limit_of, choice_of};
 

@@ -1,4 +1,6 @@
 // The station key book, read: a record at a cursor, all records to the end, a whole book, and one in the first bytes of lent room.
+#![tactic(auto)]
+
 ghost use Rattle.std.specs.Prelude.{◌≡◌, drop};
 ghost use Rattle.header.specs.Head.{formats};
 ghost use Rattle.book.specs.Book.{read_entries, read_book_by};

@@ -1,5 +1,7 @@
 // The C face of the station key book, for what does not encode: a book is started, opened, read, and a station is closed. On numbers and slices of
 // numbers only; each answer begins with 0 or the refusal's number, and under a refusal the rest are 0.
+#![tactic(auto)]
+
 ghost use Rattle.std.specs.Prelude.{◌≡◌, length};
 ghost use Rattle.header.specs.Head.{formats, read_header, header_bytes, opened_by, cut_of};
 ghost use Rattle.book.specs.Book.{read_book};

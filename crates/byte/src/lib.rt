@@ -1,4 +1,6 @@
 // A byte of a word: letters a to z count as A to Z as they are read, and the vowels are told.
+#![tactic(auto)]
+
 ghost use Rattle.std.specs.Prelude.{◌≡◌};
 ghost use Rattle.byte.specs.Text.{up};
 ghost use Rattle.byte.specs.Vowel.{vowel};

@@ -1,4 +1,6 @@
 // The chosen code, as a part of the buffer it lies in.
+#![tactic(auto)]
+
 ghost use Rattle.std.specs.Prelude.{◌≡◌};
 ghost use Rattle.chosen.specs.Chosen.{front_of, chosen_of};
 

@@ -1,5 +1,7 @@
 // A station closed: its live record is found, and the record's kind becomes 0. A fault is document 02's number: the reader's, and 11 where the
 // station has no live record. A refusal changes nothing.
+#![tactic(auto)]
+
 ghost use Rattle.closing.specs.Closed.{Closed};
 
 use book::Reading;

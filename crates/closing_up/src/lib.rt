@@ -1,4 +1,6 @@
 // Closed records give their room back: a book is closed up in the lent room itself.
+#![tactic(auto)]
+
 ghost use Rattle.std.specs.Prelude.{◌≤◌, length};
 ghost use Rattle.fields.specs.Put.{Put};
 ghost use Rattle.book.specs.Told.{AllGood};

@@ -1,4 +1,6 @@
 // Two slices of bytes compared.
+#![tactic(auto)]
+
 ghost use Rattle.std.specs.Prelude.{◌≡◌};
 ghost use Rattle.basics.specs.Same.{same};
 

@@ -1,4 +1,6 @@
 // A call that names its edition by a number.
+#![tactic(auto)]
+
 ghost use Rattle.editions.specs.Editions.{EncodedIn};
 
 use answers::Reply;

@@ -1,4 +1,6 @@
 // The encoder: refuses what it must, trims the word, and lends the inner part and both buffers to the walk.
+#![tactic(auto)]
+
 ghost use Rattle.std.specs.Prelude.{◌≡◌};
 ghost use Rattle.encoder.specs.Encode.{encoder_of, default_limit, Encoded};
 

@@ -1,6 +1,8 @@
 // One record of a station key book, read at any place: its kind, its station, its name and its codes. A fault is document 02's number: 1 and 2 for
 // a name that the encoder refuses, 5 a number in a bad form, 6 the book ends inside something, 7 unknown kind, 8 station not above the
 // one before.
+#![tactic(auto)]
+
 ghost use Rattle.std.specs.Prelude.{◌≡◌, drop};
 ghost use Rattle.fields.specs.Field.{read_number, read_text, any};
 ghost use Rattle.fields.specs.Got.{read_both};

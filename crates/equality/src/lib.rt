@@ -1,4 +1,6 @@
 // The equality question: two words, a limit and a choice of code.
+#![tactic(auto)]
+
 ghost use Rattle.std.specs.Prelude.{◌≡◌};
 ghost use Rattle.terms.specs.declared.Edition.TheVariants.{E1};
 ghost use Rattle.demands.specs.Code.{code_of};

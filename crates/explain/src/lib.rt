@@ -1,6 +1,8 @@
 // The C face of the listing, on numbers and slices of numbers only. It is a crate, and with that a compiled module, of its own: a second
 // caller of `letters::visit_at` in the module of crates/simmerquilt would keep the letter rules from being compiled into the walk, and
 // cost the encoder a quarter of its speed. host/native-build puts both modules into one archive.
+#![tactic(auto)]
+
 ghost use Rattle.std.specs.Prelude.{◌≡◌, length};
 ghost use Rattle.listing.specs.Listing.{told_of, room_of};
 ghost use Rattle.asking.specs.Asked.{limit_of};

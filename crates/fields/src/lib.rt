@@ -1,4 +1,6 @@
 // The fields of a book, a number and a text behind its length: read at any place, and put where there is room.
+#![tactic(auto)]
+
 ghost use Rattle.std.specs.Prelude.{◌≡◌, ◌+◌, ◌^◌, ◌≤◌, ◌<◌, length, drop};
 ghost use Rattle.fields.specs.Field.{number, text, read_number, read_bytes, read_text, any};
 ghost use Rattle.fields.specs.Put.{Put};

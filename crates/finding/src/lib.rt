@@ -1,4 +1,6 @@
 // The live record of a station found, in a book whose records read.
+#![tactic(auto)]
+
 ghost use Rattle.std.specs.Prelude.{◌≡◌, ◌&&◌, eqb, drop};
 ghost use Rattle.book.specs.Book.{read_entries};
 ghost use Rattle.book.specs.Told.{AllGood};

@@ -1,5 +1,7 @@
 // A record whose codes are made, fitted into a station key book that was read, in lent room: behind its end, or, where it does not fit there,
 // behind the book closed up. A refusal changes nothing.
+#![tactic(auto)]
+
 ghost use Rattle.std.specs.Prelude.{◌≤◌, length};
 ghost use Rattle.terms.specs.Limits.{word_limit, code_room};
 ghost use Rattle.fitting.specs.Base.{Stands, CodedAdded};

@@ -1,5 +1,7 @@
 // The header of a station key book, read: format, edition and cut. A fault is document 02's number: 5 a number in a bad form, 6 the book ends
 // inside it, 7 unknown format or edition.
+#![tactic(auto)]
+
 ghost use Rattle.std.specs.Prelude.{◌≡◌, drop};
 ghost use Rattle.fields.specs.Field.{read_number};
 ghost use Rattle.fields.specs.Told.{value_at};

@@ -1,4 +1,6 @@
 // The C face of the join of two station key books, on numbers and slices of numbers only.
+#![tactic(auto)]
+
 ghost use Rattle.std.specs.Prelude.{◌≡◌, length};
 ghost use Rattle.book.specs.Book.{read_book};
 ghost use Rattle.scratch.specs.Scratch.{words_told};

@@ -1,4 +1,6 @@
 // The line reader: reads standard input in blocks, and writes for each line what `lines` makes of it.
+#![tactic(auto)]
+
 ghost use Rattle.std.specs.Prelude.{◌≤◌, length};
 ghost use Rattle.line.specs.Line.{line_room};
 

@@ -1,4 +1,6 @@
 // One visit: a match on the visited byte, whose promise is the definition's visit.
+#![tactic(auto)]
+
 ghost use Rattle.std.specs.Prelude.{◌≡◌};
 ghost use Rattle.byte.specs.Text.{upper};
 ghost use Rattle.rules.specs.Cond.{mode};

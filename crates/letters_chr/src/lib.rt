@@ -1,4 +1,6 @@
 // CH as in Greek: the tests that give it K. Each promises its condition.
+#![tactic(auto)]
+
 ghost use Rattle.std.specs.Prelude.{◌≡◌};
 ghost use Rattle.byte.specs.Text.{upper};
 ghost use Rattle.rules.specs.CasesC.{condition_ch0, condition_ch1, kh_before, van_or_von};

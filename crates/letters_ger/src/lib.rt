@@ -1,4 +1,6 @@
 // The -ger- and -gy- test of G: whether it holds, and which of its texts it tells.
+#![tactic(auto)]
+
 ghost use Rattle.std.specs.Prelude.{◌≡◌};
 ghost use Rattle.byte.specs.Text.{upper};
 ghost use Rattle.rules.specs.CasesG.{ger_first, ger};

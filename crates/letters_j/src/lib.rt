@@ -1,4 +1,6 @@
 // The rule of J: what it promises is the first of its cases that holds; the function of a compound test promises its condition.
+#![tactic(auto)]
+
 ghost use Rattle.std.specs.Prelude.{◌≡◌};
 ghost use Rattle.byte.specs.Text.{upper};
 ghost use Rattle.rules.specs.CasesDL.{cases_j, spanish, spanish_h};

@@ -1,4 +1,6 @@
 // The rule of J in no Spanish name. The branch's function promises its tree (specs/Trees.antt), a test's its condition.
+#![tactic(auto)]
+
 ghost use Rattle.std.specs.Prelude.{◌≡◌, false};
 ghost use Rattle.std.proofs.Math.Option.{none};
 ghost use Rattle.byte.specs.Text.{upper};

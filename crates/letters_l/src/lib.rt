@@ -1,5 +1,7 @@
 // The rule of L: one function for each branch, and one for each compound test. What the letter's rule promises is the first of its
 // cases that holds; a branch's function promises its tree (specs/Trees.antt), a test's its condition.
+#![tactic(auto)]
+
 ghost use Rattle.std.specs.Prelude.{◌≡◌, true};
 ghost use Rattle.byte.specs.Text.{upper};
 ghost use Rattle.rules.specs.CasesDL.{cases_l, condition_l0};

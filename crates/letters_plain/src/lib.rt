@@ -1,4 +1,6 @@
 // The letters of one sound, and the vowels.
+#![tactic(auto)]
+
 ghost use Rattle.std.specs.Prelude.{◌≡◌, cond, ◌+◌};
 ghost use Rattle.byte.specs.Text.{upper};
 ghost use Rattle.spots.specs.Spot.{byte_at};

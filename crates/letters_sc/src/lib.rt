@@ -1,5 +1,7 @@
 // The rule of S before C: one function for each branch, and one for each compound test. A branch's function promises its tree
 // (specs/Trees.antt), a test's its condition.
+#![tactic(auto)]
+
 ghost use Rattle.std.specs.Prelude.{◌≡◌, true};
 ghost use Rattle.std.proofs.Math.Option.{some};
 ghost use Rattle.byte.specs.Text.{upper};

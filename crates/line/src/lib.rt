@@ -1,4 +1,6 @@
 // The line that the line reader writes for one word: both codes with a tab between them, or a refusal.
+#![tactic(auto)]
+
 ghost use Rattle.std.specs.Prelude.{◌≡◌, [], ◌∷◌, ◌+◌, ◌≤◌, length};
 ghost use Rattle.line.specs.Line.{line_of, line_room, Lies};
 

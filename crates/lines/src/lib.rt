@@ -1,4 +1,6 @@
 // The line reader's work, on slices: the program above it only reads and writes.
+#![tactic(auto)]
+
 ghost use Rattle.std.specs.Prelude.{◌≡◌, List, ℕ, ◌+◌, ◌≤◌, length};
 ghost use Rattle.terms.specs.Limits.{word_limit};
 ghost use Rattle.line.specs.Line.{line_of, line_room, Lies};

@@ -1,5 +1,7 @@
 // The listing: for each visit of a word which case spoke, by which text, what it adds and passes over, as rows of seven numbers in lent
 // room. The encoder is asked first: its refusals are the listing's, and its visits are the rows.
+#![tactic(auto)]
+
 ghost use Rattle.std.specs.Prelude.{◌≡◌, ◌≤◌, length};
 ghost use Rattle.terms.specs.Limits.{word_limit};
 ghost use Rattle.walk.specs.Word.{visits_of};

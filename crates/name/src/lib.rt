@@ -1,5 +1,7 @@
 // A stored name, read at any place. A fault is document 02's number: 1 and 2 for a name that the encoder refuses, 5 a number in a bad form, 6
 // the book ends inside it.
+#![tactic(auto)]
+
 ghost use Rattle.std.specs.Prelude.{◌≡◌, ◌≤◌, length, drop};
 ghost use Rattle.fields.specs.Field.{read_bytes, read_text, fault_in};
 ghost use Rattle.fields.specs.Told.{part_at, bytes_at};

@@ -1,4 +1,6 @@
 // The room that a trimmed word needs in each buffer, and the limit that its walk is given.
+#![tactic(auto)]
+
 ghost use Rattle.std.specs.Prelude.{◌≡◌, ◌≤◌};
 ghost use Rattle.terms.specs.Limits.{word_limit};
 ghost use Rattle.needs.specs.Needs.{need_of, cap_of};

@@ -1,4 +1,6 @@
 // What a visit answers: an addition for each code and an advance; and which case of the rules spoke, by which text.
+#![tactic(auto)]
+
 ghost use Rattle.std.specs.Prelude.{◌≡◌, cond, ◌+◌, ◌<◌, ◌^◌};
 ghost use Rattle.outcome.specs.Answers.{answer, spoke, or_else};
 

@@ -1,4 +1,6 @@
 // A record whose codes are made, put behind the end of a station key book in lent room. A refusal changes nothing.
+#![tactic(auto)]
+
 ghost use Rattle.std.specs.Prelude.{◌≡◌, ◌≤◌, ◌+◌, leb, length};
 ghost use Rattle.terms.specs.Limits.{word_limit, code_room};
 ghost use Rattle.entry.specs.Entry.{entry_bytes};

@@ -1,4 +1,6 @@
 // A header or a record put in lent room that has room for it, and how many bytes it takes.
+#![tactic(auto)]
+
 ghost use Rattle.std.specs.Prelude.{◌≡◌, ◌++◌, ◌+◌, ◌^◌, ◌≤◌, ◌<◌, length};
 ghost use Rattle.terms.specs.Limits.{word_limit, code_room};
 ghost use Rattle.fields.specs.Field.{number, text};

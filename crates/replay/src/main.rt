@@ -1,6 +1,8 @@
 // Replays stored answers of the unchanged Rust, and prints how many the port gives too. A line of standard input is a limit (one digit, or
 // `-` for none), a tab, the visits, a tab, the primary code, a tab, the alternate code, a tab and the word. The word runs to the line's end, so
 // it may hold any byte but 10; a code holds neither a tab nor byte 10.
+#![tactic(auto)]
+
 ghost use Rattle.std.specs.Prelude.{◌≤◌, length};
 
 use answers::Answer;

@@ -1,4 +1,6 @@
 // Room for a program's whole input.
+#![tactic(auto)]
+
 ghost use Rattle.std.specs.Prelude.{◌≡◌, ℕ, length, get_or};
 
 // A mebibyte of zeros. As a function's result it is made where it is kept, and no caller's proof writes it out.

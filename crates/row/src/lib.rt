@@ -1,4 +1,6 @@
 // A visit as a row of seven numbers, written to lent room.
+#![tactic(auto)]
+
 ghost use Rattle.std.specs.Prelude.{◌≡◌, ◌+◌, ◌≤◌, ◌<◌, length};
 ghost use Rattle.std.proofs.lemmas.List.Edits.{sets};
 ghost use Rattle.row.specs.Numbers.{gained, row_of, numbers_of, Small};

@@ -1,4 +1,6 @@
 // The rows of a word, visit by visit, written to lent room.
+#![tactic(auto)]
+
 ghost use Rattle.std.specs.Prelude.{◌≡◌, ◌*◌, ◌≤◌, length};
 ghost use Rattle.terms.specs.Limits.{word_limit};
 ghost use Rattle.walk.specs.Walk.{filled};

@@ -1,5 +1,7 @@
 // The C face of all that encodes: the encoder, the equality question, and records added to a station key book; for hosts, on numbers and
 // slices of numbers only. A slice is a pointer and a length; answers go to arrays that the caller lends.
+#![tactic(auto)]
+
 ghost use Rattle.std.specs.Prelude.{◌≡◌, length};
 ghost use Rattle.terms.specs.declared.Edition.TheVariants.{E1};
 ghost use Rattle.encoder.specs.Encode.{answer_of, Encoded};

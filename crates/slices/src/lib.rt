@@ -1,4 +1,6 @@
 // A slice of bytes: a part of it, and the bytes left from a place on.
+#![tactic(auto)]
+
 ghost use Rattle.std.specs.Prelude.{◌≡◌, ◌-◌, min, length};
 ghost use Rattle.slices.specs.Parts.{within};
 

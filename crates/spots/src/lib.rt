@@ -1,5 +1,7 @@
 // What the letter rules ask of a place in a word: a byte or a vowel ahead of it or behind it, and where the word ends. Every test is total:
 // a place below 0 or past the end is no match.
+#![tactic(auto)]
+
 ghost use Rattle.std.specs.Prelude.{◌≡◌, ℕ, ◌+◌};
 ghost use Rattle.byte.specs.Text.{upper};
 ghost use Rattle.spots.specs.Spot.{byte_at, vowel_at, step_back, ends_after, is_long};

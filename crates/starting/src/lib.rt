@@ -1,5 +1,7 @@
 // A new station key book in lent room. A fault is document 02's number: 5 for a cut that no number of the book holds, 9 for too little room; a
 // refusal changes nothing.
+#![tactic(auto)]
+
 ghost use Rattle.std.specs.Prelude.{◌^◌, ◌<◌};
 ghost use Rattle.header.specs.Head.{header_bytes, cut_of};
 ghost use Rattle.putting.specs.Laid.{Placed};

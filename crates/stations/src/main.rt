@@ -1,6 +1,8 @@
 // Prints a station key book that stands on standard input: a line for its header, one for each record, and one for how many there are. A closed
 // record's line ends with the word, and the last line tells how many are closed.
 // A fault ends the print, and its number, behind `!`, begins the last line.
+#![tactic(auto)]
+
 ghost use Rattle.std.specs.Prelude.{◌≤◌};
 
 use entry::Step;

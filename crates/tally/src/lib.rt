@@ -1,5 +1,7 @@
 // The running tally of a walk: both code lengths and the visit count, and what a visit makes of it, by value. It is lent to the
 // letter rules (`visit_into`, crates/letters), as the Rust lends its DoubleMetaphoneResult.
+#![tactic(auto)]
+
 ghost use Rattle.std.specs.Prelude.{◌≡◌, ◌+◌, ◌-◌, ◌<◌, ◌^◌, min};
 ghost use Rattle.tally.specs.Tally.{longer, with_primary, with_alternate, counted};
 

@@ -1,4 +1,6 @@
 // The answers of the book and the join, told as a host's numbers.
+#![tactic(auto)]
+
 ghost use Rattle.std.specs.Prelude.{◌≡◌};
 ghost use Rattle.telling_books.specs.Numbers.{made_numbers, opened_numbers, step_numbers, whole_numbers, ended_numbers, joined_numbers};
 

@@ -1,5 +1,7 @@
 // What the documents fix once: the numbers of the refusals, how long a word and a code may be, which formats and editions are known, and
 // which a new book carries.
+#![tactic(auto)]
+
 ghost use Rattle.std.specs.Prelude.{◌≡◌};
 ghost use Rattle.terms.specs.Editions.{is_second, edition_of};
 

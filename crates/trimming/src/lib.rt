@@ -1,4 +1,6 @@
 // The part of a word between its blanks.
+#![tactic(auto)]
+
 ghost use Rattle.std.specs.Prelude.{◌≡◌, ◌≤◌, length, take, drop};
 ghost use Rattle.trimming.specs.Trim.{blank, trim_start, trim_end, trimmed};
 

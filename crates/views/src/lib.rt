@@ -1,5 +1,7 @@
 // A window seen from a place in a word: ahead of it, behind it, at the front and at the end of the word. Every test is total: a window below
 // 0 or past the end is no match.
+#![tactic(auto)]
+
 ghost use Rattle.std.specs.Prelude.{◌≡◌, ℕ, ◌+◌};
 ghost use Rattle.byte.specs.Text.{upper};
 ghost use Rattle.windows.specs.Window.{sees, text_at, texts};

@@ -1,4 +1,6 @@
 // One visit with the running tally: it is lent to the rule, as the Rust lends its DoubleMetaphoneResult, and taken back.
+#![tactic(auto)]
+
 ghost use Rattle.std.specs.Prelude.{◌≡◌, ◌+◌, ◌<◌, ◌^◌};
 ghost use Rattle.byte.specs.Text.{upper};
 ghost use Rattle.rules.specs.Cond.{mode};

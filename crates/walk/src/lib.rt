@@ -1,6 +1,8 @@
 // The walk over a trimmed word: the loop that visits place after place and writes
 // what each visit adds, clipped to the limit. Of the letter rules it uses the promise of `visit_with` alone, which
 // lends them the tally.
+#![tactic(auto)]
+
 ghost use Rattle.std.specs.Prelude.{◌≡◌, ◌≤◌, length};
 ghost use Rattle.walk.specs.Walk.{filled, tally_of};
 ghost use Rattle.walk.specs.Word.{limited_of};

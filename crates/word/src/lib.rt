@@ -1,4 +1,6 @@
 // What a trimmed word tells before it is walked: the Slavo-Germanic mark, and where the first visit is.
+#![tactic(auto)]
+
 ghost use Rattle.std.specs.Prelude.{◌≡◌, cond};
 ghost use Rattle.byte.specs.Text.{upper};
 ghost use Rattle.word.specs.Mark.{slavo_germanic};

@@ -1,5 +1,4 @@
--- `number::read_number` meets its contract: behind the slice's end there is nothing to read, and a first byte below 128 is the number; behind any
--- other the last group may not be 0.
+-- `number::read_number` meets its contract: behind the slice's end there is nothing to read, and a first byte below 128 is the number.
 use Prim.Native.Nat.{ℕ}
 use mathlib.Core.Path.{sym, ap, ◌∙◌}
 use mathlib.Core.Bool.{true}
@@ -8,7 +7,7 @@ use borrow.Author.Rules.{rules}
 use borrow.Author.Tests.{lt-ltb}
 use lib.ListN.{drop, drop_of_length-le}
 use Rattle.number.specs.declared.Found.TheVariants.{Number}
-use Rattle.number.proofs.Laws.{reads_empty, reads_at, reads_on}
+use Rattle.number.proofs.Laws.{reads_empty, reads_at}
 use Rattle.number.proofs.read_number.Statement.{statement}
 use Rattle.number.proofs.read_number.Tie as tie
 
@@ -25,6 +24,4 @@ read-number-spec =
     let a = c.before.before.before.before.before.args in
     ap (λ (v : ℕ). Number v 1) c.wide.ensures ∙ sym (reads_at a.s.now a.at 4 true (λ e. omega arith) c.before.before.before.if1.false ∙ simp (lt-ltb _ _ c.before.if2.true)))
     (λ c κs. search rules)
-    (λ c.
-    let a = c.before.before.before.before.before.args in
-    c.read-from.ensures ∙ reads_on a.s.now a.at 4 (λ e. omega arith) c.before.before.before.if1.false c.before.if2.false))
+    (λ c. search rules))

@@ -5,7 +5,7 @@ ghost use Rattle.std.specs.Prelude.{◌≡◌};
 ghost use Rattle.answers.specs.Numbers.{answer_numbers, reply_numbers, verdict_numbers};
 
 // The answers 0 to 4 of document 01, in its order; the place is that of the first byte that is no ASCII.
-#[derive(Drop)]
+#[derive(Clone, Copy)]
 pub enum Answer {
     Coded {
         primary: usize,
@@ -19,14 +19,14 @@ pub enum Answer {
 }
 
 // What a call that names its edition by a number gets: 7, or the answer under that edition.
-#[derive(Drop)]
+#[derive(Clone, Copy)]
 pub enum Reply {
     Answered(Answer),
     UnknownEdition,
 }
 
 // What the equality question answers. The refusals 1 and 2 of document 01 name the word, 1 or 2, and the second its place.
-#[derive(Drop)]
+#[derive(Clone, Copy)]
 pub enum Verdict {
     Equal,
     Different,

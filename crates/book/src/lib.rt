@@ -12,14 +12,14 @@ use header::{Cursor, Header, Opened};
 use terms::BOOK_ENDS;
 
 // Where a good book ends, what its header says, and the least station that a further record may have.
-#[derive(Drop)]
+#[derive(Clone, Copy)]
 pub struct End {
     pub header: Header,
     pub len: usize,
     pub floor: u32,
 }
 
-#[derive(Drop)]
+#[derive(Clone, Copy)]
 pub enum Ended {
     At(End),
     Fault(u8),
@@ -27,7 +27,7 @@ pub enum Ended {
 
 // How many records there are and how many of them are live, the least station behind all of them and behind the live ones, and how many
 // bytes the live ones take.
-#[derive(Drop)]
+#[derive(Clone, Copy)]
 pub struct Measure {
     pub count: usize,
     pub live: usize,
@@ -36,14 +36,14 @@ pub struct Measure {
     pub size: usize,
 }
 
-#[derive(Drop)]
+#[derive(Clone, Copy)]
 pub enum Survey {
     All(Measure),
     Fault(u8),
 }
 
 // A book that was read to its end: where its records begin, and what they measure.
-#[derive(Drop)]
+#[derive(Clone, Copy)]
 pub enum Reading {
     Book {
         header: Header,

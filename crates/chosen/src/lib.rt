@@ -4,7 +4,7 @@
 ghost use Rattle.std.specs.Prelude.{◌≡◌};
 ghost use Rattle.chosen.specs.Chosen.{front_of, chosen_of};
 
-#[derive(Drop)]
+#[derive(Clone, Copy)]
 pub enum Choice {
     Primary,
     Alternate,

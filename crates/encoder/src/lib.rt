@@ -7,7 +7,7 @@ ghost use Rattle.encoder.specs.Encode.{encoder_of, default_limit, Encoded};
 use answers::Answer;
 use terms::{Edition, Limit, WORD_LIMIT};
 
-#[derive(Drop)]
+#[derive(Clone, Copy)]
 pub struct Encoder {
     pub limit: Limit,
     pub edition: Edition,

@@ -15,7 +15,7 @@ use header::Cursor;
 use slices::Span;
 use terms::{NOT_ABOVE, NOT_KNOWN};
 
-#[derive(Drop)]
+#[derive(Clone, Copy)]
 pub enum Codes {
     At {
         primary: Span,
@@ -25,7 +25,7 @@ pub enum Codes {
     Fault(u8),
 }
 
-#[derive(Drop)]
+#[derive(Clone, Copy)]
 pub enum Step {
     Record {
         station: u32,

@@ -9,13 +9,13 @@ ghost use Rattle.fields.specs.Told.{value_at, part_at, bytes_at};
 use slices::Span;
 use terms::{BAD_NUMBER, BOOK_ENDS};
 
-#[derive(Drop)]
+#[derive(Clone, Copy)]
 pub enum Value {
     At { value: u32, next: usize },
     Fault(u8),
 }
 
-#[derive(Drop)]
+#[derive(Clone, Copy)]
 pub enum Part {
     At { span: Span, next: usize },
     Fault(u8),

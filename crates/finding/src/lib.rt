@@ -10,7 +10,7 @@ use entry::Step;
 use terms::{BOOK_ENDS, NO_LIVE};
 
 // Where the kind of a record stands.
-#[derive(Drop)]
+#[derive(Clone, Copy)]
 pub enum Place {
     At(usize),
     Fault(u8),

@@ -11,7 +11,7 @@ use fields::Value;
 use terms::{EDITIONS, FORMATS, Limit, NOT_KNOWN};
 
 // The cut is 0 for none, else the limit plus 1.
-#[derive(Drop)]
+#[derive(Clone, Copy)]
 pub struct Header {
     pub format: u32,
     pub edition: u32,
@@ -19,13 +19,13 @@ pub struct Header {
 }
 
 // Where the next record begins, and the least station that it may have.
-#[derive(Drop)]
+#[derive(Clone, Copy)]
 pub struct Cursor {
     pub at: usize,
     pub floor: u32,
 }
 
-#[derive(Drop)]
+#[derive(Clone, Copy)]
 pub enum Opened {
     Book { header: Header, first: Cursor },
     Fault(u8),

@@ -9,7 +9,7 @@ use line::LINE_ROOM;
 use terms::WORD_LIMIT;
 
 // What a block leaves: the bytes held of the line that is not ended, whether there may be more to read, and whether no call failed.
-#[derive(Drop)]
+#[derive(Clone, Copy)]
 struct Turn {
     held: usize,
     more: bool,

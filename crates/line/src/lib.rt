@@ -15,7 +15,7 @@ pub const LINE_ROOM: usize = 2 * Encoder::DEFAULT_LIMIT + 2;
 const TAB: usize = Encoder::DEFAULT_LIMIT;
 
 // Where a line lies in its buffer.
-#[derive(Drop)]
+#[derive(Clone, Copy)]
 pub struct Span {
     pub start: usize,
     pub end: usize,

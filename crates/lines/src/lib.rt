@@ -11,7 +11,7 @@ use line::{LINE_ROOM, Span};
 use terms::WORD_LIMIT;
 
 // The bytes of output so far, and the bytes held of the line that is not ended.
-#[derive(Drop)]
+#[derive(Clone, Copy)]
 struct Counts {
     wrote: usize,
     held: usize,
@@ -19,7 +19,7 @@ struct Counts {
 
 // How far a feed came: bytes of the block, bytes of the output, and the bytes held of the line that is not ended. Any number of
 // held bytes over WORD_LIMIT says that the line is too long.
-#[derive(Drop)]
+#[derive(Clone, Copy)]
 pub struct Progress {
     pub used: usize,
     pub wrote: usize,

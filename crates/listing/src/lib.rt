@@ -13,7 +13,7 @@ use row::ROW;
 use terms::{CODE_ROOM, Limit};
 
 // How many rows, all written; or the refusals 1, 2, 7 and 9.
-#[derive(Drop)]
+#[derive(Clone, Copy)]
 pub enum Told {
     Rows(usize),
     TooLong,

@@ -5,7 +5,7 @@ ghost use Rattle.std.specs.Prelude.{◌≡◌, cond, ◌+◌, ◌<◌, ◌^◌};
 ghost use Rattle.outcome.specs.Answers.{answer, spoke, or_else};
 
 // What a visit adds to one code.
-#[derive(Drop)]
+#[derive(Clone, Copy)]
 pub enum Add {
     Nothing,
     One(u8),
@@ -13,7 +13,7 @@ pub enum Add {
 }
 
 // What a visit adds to the codes, and how many further bytes it passes over.
-#[derive(Drop)]
+#[derive(Clone, Copy)]
 pub struct Visit {
     pub primary: Add,
     pub alternate: Add,
@@ -45,7 +45,7 @@ impl Visit {
 }
 
 // A visit, the number of the case that spoke, and that of the text that its windows matched, or 0.
-#[derive(Drop)]
+#[derive(Clone, Copy)]
 pub struct Spoken {
     pub case: usize,
     pub text: usize,

@@ -9,7 +9,7 @@ ghost use Rattle.entry.specs.Entry.{record_bytes, entry_bytes};
 ghost use Rattle.putting.specs.Laid.{record_with, entry_with};
 
 // The length of the book that was made.
-#[derive(Drop)]
+#[derive(Clone, Copy)]
 pub enum Made {
     Length(usize),
     Fault(u8),

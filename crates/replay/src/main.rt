@@ -11,7 +11,7 @@ use encoder::Encoder;
 use libc::{STDIN_FILENO, STDOUT_FILENO};
 use terms::{CODE_ROOM, Limit};
 
-#[derive(Drop)]
+#[derive(Clone, Copy)]
 struct Counts {
     right: u64,
     wrong: u64,

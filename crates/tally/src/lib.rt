@@ -8,7 +8,7 @@ ghost use Rattle.tally.specs.Tally.{longer, with_primary, with_alternate, counte
 use outcome::{Add, Visit};
 
 // Both code lengths and the count of visits.
-#[derive(Drop)]
+#[derive(Clone, Copy)]
 pub struct Tally {
     pub primary: usize,
     pub alternate: usize,

@@ -37,14 +37,14 @@ pub const WORD_LIMIT: usize = 1024;
 pub const CODE_ROOM: usize = 2 * WORD_LIMIT - 1;
 
 // How many bytes a code may have.
-#[derive(Drop)]
+#[derive(Clone, Copy)]
 pub enum Limit {
     Whole,
     At(usize),
 }
 
 // The editions of the rules: the first is the Rust's, the second reads one test of C otherwise (crates/rules/specs/CasesC.antt).
-#[derive(Drop)]
+#[derive(Clone, Copy)]
 pub enum Edition {
     E1,
     E2,

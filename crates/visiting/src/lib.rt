@@ -31,7 +31,7 @@ pub fn visit_into(
 }
 
 // A visit, and the tally that took it in.
-#[derive(Drop)]
+#[derive(Clone, Copy)]
 pub struct Visited {
     pub tally: Tally,
     pub visit: Visit,

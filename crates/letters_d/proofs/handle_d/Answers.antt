@@ -8,18 +8,14 @@ use Rattle.rules.specs.Tree.{run}
 use Rattle.rules.proofs.Next.{by_next, is_none}
 use Rattle.letters_d.specs.Trees.{tree_d}
 use Rattle.letters_d.proofs.Ways.{ways_d}
-use Rattle.letters_d.proofs.handle_d.Statement.{statement}
-use Rattle.letters_d.proofs.handle_d.Tie as tie
+use Rattle.letters_d.proofs.handle_d.Goals as goal
 
-pub handle-d-spec : {M : Type 1} → statement M
+pub returns-then-ahead : goal.returns-then-ahead
 unfolding run tree_d
-handle-d-spec =
-    tie.close
-    (tie.spec
-    (λ c. refl) (λ c κs. tt)
-    (λ c κs. tt)
-    (λ c κs. tt)
-    (λ c. c.handle-d-before.ensures)
-    (λ c.
+returns-then-ahead c = c.handle_d_before.ensures
+
+pub returns-else-ahead : goal.returns-else-ahead
+unfolding run tree_d
+returns-else-ahead c =
     by_next (λ (x : ℕ). not (among (bytes "DGT") x)) false tree_d _ _ _ ways_d
-    (is_none _ _ (bytes "DGT") refl (sym c.before.before.ahead.ensures ∙ c.before.if1.false)) (λ e. absurd (false≢true e)) c.both.ensures))
+    (is_none _ _ (bytes "DGT") refl (sym c.ahead.ensures ∙ c.if-ahead.false)) (λ e. absurd (false≢true e)) c.both.ensures

@@ -1,0 +1,11 @@
+-- `letters_gh::is_after_consonant` meets its contract: its expression is the condition.
+use Rattle.rules.specs.Cond.{holds}
+use Rattle.letters_gh.proofs.is_after_consonant.Goals as goal
+
+pub vowel_behind-requires : goal.vowel_behind-requires
+unfolding holds
+vowel_behind-requires c = tt
+
+pub returns : goal.returns
+unfolding holds
+returns c = cc

@@ -1,0 +1,11 @@
+-- `letters_gh::parker_text` meets its contract: its numbers are those of the condition.
+use mathlib.Core.Path.{refl}
+use Rattle.rules.specs.Told.{text_of}
+use Rattle.rules.proofs.Told.{exactly}
+use Rattle.letters_gh.proofs.Exact.{exact_parker}
+use Rattle.letters_gh.proofs.parker_text.Goals as goal
+
+-- TODO returns: record of ['tells', 'holds']
+pub returns : goal.returns
+unfolding text_of
+returns c = exactly _ _ _ _ _ (exact_parker _ _ _) (cc)

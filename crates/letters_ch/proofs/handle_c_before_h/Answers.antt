@@ -5,7 +5,10 @@ use Rattle.rules.proofs.Tree.{said, says, texts}
 use Rattle.letters_ch.specs.Trees.{tree_c_before_h}
 use Rattle.letters_ch.proofs.handle_c_before_h.Goals as goal
 
--- TODO 10 args, 9 goals: condition_c0-requires, c0_text-text-requires, both-requires, ahead-requires, handle_ch-requires, both-requires-else-ahead, returns-then-condition_c0, returns-then-ahead, returns-else-ahead
+pub handle_ch-requires : goal.handle_ch-requires
+unfolding holds tree_c_before_h
+handle_ch-requires c = sym c.ahead.ensures ∙ c.if-ahead.true
+
 pub returns-then-condition_c0 : goal.returns-then-condition_c0
 unfolding holds tree_c_before_h
 returns-then-condition_c0 c = said (search (says, texts) depth 14)

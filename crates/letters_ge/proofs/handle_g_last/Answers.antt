@@ -5,25 +5,9 @@ use Rattle.rules.proofs.Tree.{said, says, tells}
 use Rattle.letters_ge.specs.Trees.{tree_g_last}
 use Rattle.letters_ge.proofs.handle_g_last.Goals as goal
 
-pub biaggi_text-text-requires : goal.biaggi_text-text-requires
-unfolding holds text_of tree_g_last
-biaggi_text-text-requires c = tt
-
 pub handle_ggi-requires : goal.handle_ggi-requires
 unfolding holds text_of tree_g_last
-handle_ggi-requires c = (c.biaggi_text-text.ensures.tells, c.if-text-ne0.true)
-
-pub char_ahead-requires : goal.char_ahead-requires
-unfolding holds text_of tree_g_last
-char_ahead-requires c = tt
-
-pub both-requires : goal.both-requires
-unfolding holds text_of tree_g_last
-both-requires c = tt
-
-pub both-requires-else-char_ahead : goal.both-requires-else-char_ahead
-unfolding holds text_of tree_g_last
-both-requires-else-char_ahead c = tt
+handle_ggi-requires c = record { tells = c.biaggi_text-text.ensures.tells; held = c.if-text-ne0.true }
 
 pub returns-then-text-ne0 : goal.returns-then-text-ne0
 unfolding holds text_of tree_g_last

@@ -4,30 +4,6 @@ use Rattle.rules.proofs.Tree.{said, says}
 use Rattle.letters_gh.specs.Trees.{tree_gh}
 use Rattle.letters_gh.proofs.handle_gh.Goals as goal
 
-pub is_after_consonant-requires : goal.is_after_consonant-requires
-unfolding holds tree_gh
-is_after_consonant-requires c = tt
-
-pub both-requires : goal.both-requires
-unfolding holds tree_gh
-both-requires c = tt
-
-pub char_ahead-requires : goal.char_ahead-requires
-unfolding holds tree_gh
-char_ahead-requires c = tt
-
-pub both-requires-then-char_ahead : goal.both-requires-then-char_ahead
-unfolding holds tree_gh
-both-requires-then-char_ahead c = tt
-
-pub both-requires-else-char_ahead : goal.both-requires-else-char_ahead
-unfolding holds tree_gh
-both-requires-else-char_ahead c = tt
-
-pub handle_gh_later-requires : goal.handle_gh_later-requires
-unfolding holds tree_gh
-handle_gh_later-requires c = tt
-
 pub returns-then-is_after_consonant : goal.returns-then-is_after_consonant
 unfolding holds tree_gh
 returns-then-is_after_consonant c = said (search says depth 14)

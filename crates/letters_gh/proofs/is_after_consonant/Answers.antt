@@ -2,10 +2,6 @@
 use Rattle.rules.specs.Cond.{holds}
 use Rattle.letters_gh.proofs.is_after_consonant.Goals as goal
 
-pub vowel_behind-requires : goal.vowel_behind-requires
-unfolding holds
-vowel_behind-requires c = tt
-
 pub returns : goal.returns
 unfolding holds
 returns c = cc

@@ -2,10 +2,6 @@
 use Rattle.rules.specs.Cond.{holds}
 use Rattle.letters_gh.proofs.is_after_other.Goals as goal
 
-pub char_behind-requires : goal.char_behind-requires
-unfolding holds
-char_behind-requires c = tt
-
 pub returns : goal.returns
 unfolding holds
 returns c = cc

@@ -5,7 +5,8 @@ use Rattle.rules.proofs.Told.{exactly}
 use Rattle.letters_gh.proofs.Exact.{exact_parker}
 use Rattle.letters_gh.proofs.parker_text.Goals as goal
 
--- TODO returns: record of ['tells', 'holds']
 pub returns : goal.returns
 unfolding text_of
-returns c = exactly _ _ _ _ _ (exact_parker _ _ _) (cc)
+returns c =
+    let p = exactly _ _ _ _ _ (exact_parker _ _ _) (cc) in
+    record { tells = p.0; holds = p.1 }

@@ -10,4 +10,4 @@ zeros (suc n) zero = refl
 zeros (suc n) (suc i) = zeros n i
 
 pub returns : goal.returns
-returns c = (sym (length-replicate {0} {A = ℕ} 1048576 0), zeros 1048576)
+returns c = record { long = sym (length-replicate {0} {A = ℕ} 1048576 0); zeros = zeros 1048576 }

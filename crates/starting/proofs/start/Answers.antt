@@ -1,0 +1,23 @@
+-- `starting::start` meets its contract.
+use Prim.Native.Nat.{◌+◌}
+use mathlib.Core.Path.{ap}
+use native.Mathlib.Omega.{arith}
+use Rattle.std.proofs.Common.{rules}
+use Rattle.header.specs.Head.{cut_of}
+use Rattle.starting.proofs.New.{started, over_cut}
+use Rattle.starting.proofs.start.Goals as goal
+
+pub returns-then-n-gt268435454 : goal.returns-then-n-gt268435454
+returns-then-n-gt268435454 c =
+    let a = c.args in
+    over_cut a.limit a.room.now _ c.in-At.is c.if-n-gt268435454.true
+
+pub returns-in-Whole : goal.returns-in-Whole
+returns-in-Whole c =
+    let a = c.args in
+    started a.limit a.room.now 0 (ap cut_of c.in-Whole.is) (omega arith) _ _ c.begin.ensures
+
+pub returns-else-n-gt268435454 : goal.returns-else-n-gt268435454
+returns-else-n-gt268435454 c =
+    let a = c.args in
+    started a.limit a.room.now (c.in-At.n + 1) (ap cut_of c.in-At.is) (omega (arith, c.if-n-gt268435454.false)) _ _ c.begin-in-At.ensures

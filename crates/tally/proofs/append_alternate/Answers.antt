@@ -1,0 +1,6 @@
+-- `tally::append_alternate` meets its contract, from what `longer` ensures.
+use Rattle.std.proofs.Common.{rules}
+use Rattle.tally.proofs.append_alternate.Goals as goal
+
+pub returns : goal.returns
+returns c = rw c.longer.ensures

@@ -108,4 +108,4 @@ returns-in-90 c = arm_marked _ _ _ _ 90 refl (key 90 refl refl c.in-90.is) c.han
 
 pub returns-in-0-to-64 : goal.returns-in-0-to-64
 unfolding up speaker holds text_of rows cases_in cases_c cases_d cases_g cases_h cases_j cases_l cases_m cases_p cases_r cases_s cases_t cases_w cases_x cases_z cases_rest
-returns-in-0-to-64 c = arm_rest _ _ _ _ c.in-0-to-64.rest c.both-in-0-to-64.ensures
+returns-in-0-to-64 c = arm_rest _ _ _ _ c.in-0-to-64.in-0-to-64-own.rest c.both-in-0-to-64.ensures

@@ -2,7 +2,7 @@
 use Prim.Native.Nat.{◌+◌, ◌-◌}
 use native.Mathlib.Omega.{arith}
 use Rattle.std.proofs.Common.{rules}
-use borrow.Author.Tests.{leb-true}
+use borrow.Author.Tests.{le-leb, lt-leb}
 use lib.Dec.{leb}
 use lib.ListN.{length}
 use Rattle.entry.specs.Entry.{entry_bytes}
@@ -27,14 +27,14 @@ returns-then-number-floor_where c =
 pub put_entry-requires : goal.put_entry-requires
 put_entry-requires c =
     let a = c.args in
-    (omega (arith, c.if-station-gt-LARGEST.false), omega (arith, c.requires.1), omega (arith, c.requires.2), omega (arith, c.requires.3), omega (arith, c.requires.0, leb-true c.entry_size-size.result (length a.room.now - a.len) c.if-fits.true, c.entry_size-size.ensures))
+    (omega (arith, c.if-station-gt-LARGEST.false), omega (arith, c.requires.1), omega (arith, c.requires.2), omega (arith, c.requires.3), omega (arith, c.requires.0, c.if-fits.true, c.entry_size-size.ensures))
 
 pub returns-then-fits : goal.returns-then-fits
 returns-then-fits c =
     let a = c.args in
-    laid_good a.room.now a.len a.format a.floor a.station _ (entry_bytes a.format (entry_with a.station a.name.now a.primary.now a.alternate.now)) c.requires.0 c.entry_size-size.ensures (omega (arith, c.if-station-gt-LARGEST.false)) _ c.floor_where.ensures c.if-number-floor_where.false c.if-fits.true _ _ c.put_entry.ensures
+    laid_good a.room.now a.len a.format a.floor a.station _ (entry_bytes a.format (entry_with a.station a.name.now a.primary.now a.alternate.now)) c.requires.0 c.entry_size-size.ensures (omega (arith, c.if-station-gt-LARGEST.false)) _ c.floor_where.ensures c.if-number-floor_where.false (le-leb c.entry_size-size.result (length a.room.now - a.len) c.if-fits.true) _ _ c.put_entry.ensures
 
 pub returns : goal.returns
 returns c =
     let a = c.args in
-    laid_short a.room.now a.len a.format a.floor a.station _ (entry_bytes a.format (entry_with a.station a.name.now a.primary.now a.alternate.now)) c.requires.0 c.entry_size-size.ensures (omega (arith, c.if-station-gt-LARGEST.false)) _ c.floor_where.ensures c.if-number-floor_where.false c.if-fits.false
+    laid_short a.room.now a.len a.format a.floor a.station _ (entry_bytes a.format (entry_with a.station a.name.now a.primary.now a.alternate.now)) c.requires.0 c.entry_size-size.ensures (omega (arith, c.if-station-gt-LARGEST.false)) _ c.floor_where.ensures c.if-number-floor_where.false (lt-leb c.entry_size-size.result (length a.room.now - a.len) c.if-fits.false)

@@ -25,7 +25,7 @@ use Rattle.putting.specs.declared.Made.{Made}
 use Rattle.putting.specs.declared.Made.TheVariants.{Length, Fault}
 use Rattle.book.specs.Room.{read_in_by, read_in}
 use Rattle.book.proofs.Room.{Lies, lies}
-use Rattle.finding.specs.Finding.{meant, kind_place, kind_place}
+use Rattle.finding.specs.Finding.{meant, place_of, kind_place}
 use Rattle.closing.specs.Closed.{closed, closed_in, close_answer, close_leaves, Closed}
 use Rattle.book_laws.specs.Closing.{has_live}
 use Rattle.book_laws.proofs.Good.{not_below, is_known}
@@ -64,7 +64,7 @@ module _ (format : ℕ) (two : eqb format 1 ≡ false) (station : ℕ) where
   abbrev all_bytes : List Entry → List ℕ
   all_bytes = write_all (entry_bytes format)
 
-  pub closes : (es : List Entry) (w : List ℕ) (at : ℕ) → at ≡ length w → (p n : ℕ) → kind_place format station at es ≡ good p n
+  pub closes : (es : List Entry) (w : List ℕ) (at : ℕ) → at ≡ length w → (p n : ℕ) → place_of format station at es ≡ good p n
       → OneByte (w ++ all_bytes es) p (w ++ all_bytes (closed_in station es))
   closes [] w at a p n e = never e
   closes (e ∷ es) w at a p n q = go (λ c i h. closes es (w ++ entry_bytes format e) c i p n h) (meant station e) refl q
@@ -72,8 +72,8 @@ module _ (format : ℕ) (two : eqb format 1 ≡ false) (station : ℕ) where
       b : List ℕ
       b = entry_bytes format e
 
-      go : ((c : ℕ) → c ≡ length (w ++ b) → kind_place format station c es ≡ good p n → OneByte ((w ++ b) ++ all_bytes es) p ((w ++ b) ++ all_bytes (closed_in station es)))
-          → (t : Bool) → meant station e ≡ t → cond t (good at 1) (kind_place format station (at + length b) es) ≡ good p n
+      go : ((c : ℕ) → c ≡ length (w ++ b) → place_of format station c es ≡ good p n → OneByte ((w ++ b) ++ all_bytes es) p ((w ++ b) ++ all_bytes (closed_in station es)))
+          → (t : Bool) → meant station e ≡ t → cond t (good at 1) (place_of format station (at + length b) es) ≡ good p n
           → OneByte (w ++ (b ++ all_bytes es)) p (w ++ all_bytes (cond t (closed e ∷ es) (e ∷ closed_in station es)))
       go ih true d h =
           let r : List ℕ = record_bytes e.body ++ all_bytes es in
@@ -188,12 +188,12 @@ close_one room bs len station m room' x = go (read_in_by (formats 2) room len) r
     go (good b n) e p q = on b n e (kind_place station (good b n)) refl p q
 
 -- ---- WHEN: the fault that is read, 7 for a format 1 book among them; else 11 exactly where the station has no live record
-place_when : (format station len at : ℕ) (es : List Entry) → close_answer len (kind_place format station at es) ≡ cond (has_live station es) (Length len) (Fault 11)
+place_when : (format station len at : ℕ) (es : List Entry) → close_answer len (place_of format station at es) ≡ cond (has_live station es) (Length len) (Fault 11)
 place_when format station len at [] = refl
 place_when format station len at (e ∷ es) = go (meant station e) (place_when format station len (at + length (entry_bytes format e)) es)
   where
-    go : (t : Bool) → close_answer len (kind_place format station (at + length (entry_bytes format e)) es) ≡ cond (has_live station es) (Length len) (Fault 11)
-        → close_answer len (cond t (good at 1) (kind_place format station (at + length (entry_bytes format e)) es)) ≡ cond (t || has_live station es) (Length len) (Fault 11)
+    go : (t : Bool) → close_answer len (place_of format station (at + length (entry_bytes format e)) es) ≡ cond (has_live station es) (Length len) (Fault 11)
+        → close_answer len (cond t (good at 1) (place_of format station (at + length (entry_bytes format e)) es)) ≡ cond (t || has_live station es) (Length len) (Fault 11)
     go true ih = refl
     go false ih = ih
 

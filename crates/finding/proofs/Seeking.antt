@@ -19,7 +19,7 @@ use Rattle.entry.proofs.Entry.{entry_law, some_entry}
 use Rattle.entry.proofs.Kind.{step_told, step_fault}
 use Rattle.book.proofs.Entries.{Behind, behind, first_good, none_behind}
 use Rattle.finding.specs.declared.Place.TheVariants as place
-use Rattle.finding.specs.Finding.{meant, kind_place, place_told, sought_by, Sought}
+use Rattle.finding.specs.Finding.{meant, place_of, place_told, sought_by, Sought}
 use Rattle.book.specs.Told.{AllGood}
 
 -- ---- the record that is meant
@@ -34,7 +34,7 @@ pub record Seeking (s : List ℕ) (format station from at floor : ℕ) : Type 0 
   pub es : List Entry
   pub n : ℕ
   pub reads : read_entries format floor (drop at s) ≡ good es n
-  pub left : place_told (kind_place format station at es) ≡ place_told (sought_by format station from (read_entries format 0 (drop from s)))
+  pub left : place_told (place_of format station at es) ≡ place_told (sought_by format station from (read_entries format 0 (drop from s)))
 
 pub seek_start : (s : List ℕ) (format station from : ℕ) → AllGood (read_entries format 0 (drop from s)) → Seeking s format station from from 0
 seek_start s format station from x = record { es = x.es; n = x.n; reads = x.is; left = ap (λ (y : Got (List Entry)). place_told (sought_by format station from y)) (sym x.is) }
@@ -46,7 +46,7 @@ module _ (s : List ℕ) (format station from at floor : ℕ) (x : Seeking s form
   pub seek_none : length s ≤ at → Sought s format station from (place.Fault 11)
   seek_none h =
       let z : x.es ≡ [] = none_behind format floor (drop at s) x.es x.n (omega (arith, length-drop at s)) x.reads in
-      record { answer = sym (ap (λ (y : List Entry). place_told (kind_place format station at y)) z) ∙ x.left; inside = λ p e. no_place 11 p e }
+      record { answer = sym (ap (λ (y : List Entry). place_told (place_of format station at y)) z) ∙ x.left; inside = λ p e. no_place 11 p e }
 
   module _ (h : at < length s) where
     pub seek_never : {B : Type 0} (f : ℕ) → step_at format at (read_entry format floor (drop at s)) ≡ step.Fault f → B
@@ -85,16 +85,16 @@ module _ (s : List ℕ) (format station from at floor : ℕ) (x : Seeking s form
       pub seek_hit : (eqb k 1 && eqb v station) ≡ true → Sought s format station from (place.At at)
       seek_hit b =
           let t : Passing = passing in
-          let c : place_told (kind_place format station at (t.e ∷ t.es')) ≡ place.At at = ap (λ (j : Bool). place_told (cond j (good at 1) (kind_place format station (at + length (entry_bytes format t.e)) t.es'))) (sym t.meets ∙ b) in
+          let c : place_told (place_of format station at (t.e ∷ t.es')) ≡ place.At at = ap (λ (j : Bool). place_told (cond j (good at 1) (place_of format station (at + length (entry_bytes format t.e)) t.es'))) (sym t.meets ∙ b) in
           record {
-            answer = sym c ∙ sym (ap (λ (y : List Entry). place_told (kind_place format station at y)) t.all) ∙ x.left;
+            answer = sym c ∙ sym (ap (λ (y : List Entry). place_told (place_of format station at y)) t.all) ∙ x.left;
             inside = λ q e. let z : at ≡ q = cc in omega arith;
           }
 
       pub seek_on : (eqb k 1 && eqb v station) ≡ false → Seeking s format station from cur.at cur.floor
       seek_on b =
           let t : Passing = passing in
-          let c : place_told (kind_place format station at (t.e ∷ t.es')) ≡ place_told (kind_place format station cur.at t.es') =
-          ap (λ (j : Bool). place_told (cond j (good at 1) (kind_place format station (at + length (entry_bytes format t.e)) t.es'))) (sym t.meets ∙ b)
-          ∙ ap (λ (j : ℕ). place_told (kind_place format station j t.es')) (sym t.place) in
-          record { es = t.es'; n = t.m; reads = t.reads; left = sym c ∙ sym (ap (λ (y : List Entry). place_told (kind_place format station at y)) t.all) ∙ x.left }
+          let c : place_told (place_of format station at (t.e ∷ t.es')) ≡ place_told (place_of format station cur.at t.es') =
+          ap (λ (j : Bool). place_told (cond j (good at 1) (place_of format station (at + length (entry_bytes format t.e)) t.es'))) (sym t.meets ∙ b)
+          ∙ ap (λ (j : ℕ). place_told (place_of format station j t.es')) (sym t.place) in
+          record { es = t.es'; n = t.m; reads = t.reads; left = sym c ∙ sym (ap (λ (y : List Entry). place_told (place_of format station at y)) t.all) ∙ x.left }

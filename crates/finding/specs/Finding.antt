@@ -13,12 +13,12 @@ abbrev pub meant : ℕ → Entry → Bool
 meant station e = is_live e && eqb e.body.station station
 
 -- where its kind stands, from the place where the records begin; 11 for none
-abbrev pub kind_place : ℕ → ℕ → ℕ → List Entry → Got ℕ
-kind_place format station at [] = bad no_live
-kind_place format station at (e ∷ es) = cond (meant station e) (good at 1) (kind_place format station (at + length (entry_bytes format e)) es)
+abbrev pub place_of : ℕ → ℕ → ℕ → List Entry → Got ℕ
+place_of format station at [] = bad no_live
+place_of format station at (e ∷ es) = cond (meant station e) (good at 1) (place_of format station (at + length (entry_bytes format e)) es)
 
 abbrev pub kind_place : ℕ → Got Book → Got ℕ
-kind_place station (good b n) = kind_place b.header.format station (length (header_bytes b.header)) b.records
+kind_place station (good b n) = place_of b.header.format station (length (header_bytes b.header)) b.records
 kind_place station (bad f) = bad f
 
 -- ---- the place that is found
@@ -27,7 +27,7 @@ place_told (good p n) = place.At p
 place_told (bad f) = place.Fault f
 
 abbrev pub sought_by : ℕ → ℕ → ℕ → Got (List Entry) → Got ℕ
-sought_by format station at (good es n) = kind_place format station at es
+sought_by format station at (good es n) = place_of format station at es
 sought_by format station at (bad f) = bad f
 
 pub record Sought (s : List ℕ) (format station from : ℕ) (r : Place) : Type 0 where

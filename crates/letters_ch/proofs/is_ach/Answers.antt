@@ -1,4 +1,5 @@
 -- `letters_ch::is_ach` meets its contract: its expression is the condition but for the second place-below-2 test, which never
+-- matters.
 use mathlib.Core.Path.{refl, sym, ◌∙◌}
 use Rattle.byte.specs.Text.{upper}
 use Rattle.rules.specs.Cond.{holds, plain}

@@ -1,4 +1,5 @@
 -- `letters_s::handle_s` meets its contract: in the word, before another byte than those that some case asks for, the last case
+-- answers.
 use Prim.Native.Nat.{ℕ}
 use mathlib.Core.Path.{refl, sym, ◌∙◌}
 use mathlib.Core.Bool.{true, not}

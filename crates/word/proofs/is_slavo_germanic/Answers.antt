@@ -1,4 +1,5 @@
 -- `word::is_slavo_germanic` meets its contract. The invariant: what was found, with what the scan from `i` on finds, is what
+-- the scan of the whole word finds.
 use Prim.Native.Nat.{◌-◌}
 use Rattle.std.proofs.Common.{rules}
 use lib.ListN.{length}

@@ -1,4 +1,5 @@
 -- `row_writer::put_rows` meets its contract. The invariant, `Going`, says that the rows written and those still to come from here on are
+-- all; the measure is how many are still to come.
 use Prim.Native.Nat.{◌-◌, ◌*◌, ◌≤◌, ◌<◌}
 use mathlib.Core.Path.{ap, ◌∙◌}
 use native.Mathlib.Omega.{arith}
@@ -10,7 +11,6 @@ use Rattle.row_writer.specs.Written.{edition_if}
 use Rattle.row_writer.proofs.Written.{Going, going, inside, room_for, turned, all_written, over_is, over_few, fits_row, row_is}
 use Rattle.row_writer.proofs.put_rows.Given as goal
 
--- all; the measure is how many are still to come.
 abbrev pub invariant-loop-k : goal.invariant-loop-k
 invariant-loop-k l = Going (edition_if l.second) l.t l.initial.rows l.rows l.visits l.at l.k
 

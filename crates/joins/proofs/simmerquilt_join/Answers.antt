@@ -1,0 +1,21 @@
+-- `joins::simmerquilt_join` meets its contract.
+use mathlib.Core.Path.{ap, ◌∙◌}
+use Rattle.std.proofs.Common.{rules}
+use lib.ListN.{length}
+use Rattle.chosen.specs.declared.Choice.{Choice}
+use Rattle.book.specs.Book.{read_book}
+use Rattle.join.specs.Join.{join_by, room_by}
+use Rattle.telling_books.specs.Numbers.{joined_numbers}
+use Rattle.joins.proofs.simmerquilt_join.Goals as goal
+
+pub returns : goal.returns
+returns c =
+    let j = c.join-joined.ensures in
+    let e = c.choice_of.ensures in
+    let a = c.args in
+    record {
+      told = c.tell_joined.ensures
+          ∙ ap joined_numbers (j.answer ∙ ap (λ (d : Choice). join_by d (length a.scratch.now) (length a.room.now) (read_book a.first.now) (read_book a.second.now)) e);
+      room = j.fills ∙ ap (λ (d : Choice). room_by d (length a.scratch.now) a.room.now (read_book a.first.now) (read_book a.second.now)) e;
+      scratch = j.clears;
+    }

@@ -64,7 +64,7 @@ def declared(files):
     """The names to turn, each with the file that declares it first; a function's own proof file declares nothing that counts."""
     names = {}
     for p in files:
-        if p.endswith(("Proof.antt", "Answers.antt", "Invariants.antt")):
+        if re.search(r"/proofs/.+/(Proof|Answers|Invariants)\.antt$", p):
             continue
         t = re.sub(r"--[^\n]*", "", read(p))
         for m in DECLARED.finditer(t):

@@ -142,6 +142,8 @@ def main(argv):
             print(n, names[n])
         return 0
     for old, crates in BEFORE.items():
+        if old not in names.values():
+            continue
         for c in crates:
             for p in texts(os.path.join(top, "crates", c, "proofs"), (".antt",)):
                 t = read(p)

@@ -19,23 +19,23 @@ place_of (NotAscii at) = at
 place_of PrimaryShort = 0
 place_of AlternateShort = 0
 
-abbrev pub primaryLength : Answer → ℕ
-primaryLength (Coded p a v) = p
-primaryLength TooLong = 0
-primaryLength (NotAscii at) = 0
-primaryLength PrimaryShort = 0
-primaryLength AlternateShort = 0
+abbrev pub primary_length : Answer → ℕ
+primary_length (Coded p a v) = p
+primary_length TooLong = 0
+primary_length (NotAscii at) = 0
+primary_length PrimaryShort = 0
+primary_length AlternateShort = 0
 
-abbrev pub alternateLength : Answer → ℕ
-alternateLength (Coded p a v) = a
-alternateLength TooLong = 0
-alternateLength (NotAscii at) = 0
-alternateLength PrimaryShort = 0
-alternateLength AlternateShort = 0
+abbrev pub alternate_length : Answer → ℕ
+alternate_length (Coded p a v) = a
+alternate_length TooLong = 0
+alternate_length (NotAscii at) = 0
+alternate_length PrimaryShort = 0
+alternate_length AlternateShort = 0
 
-abbrev pub visitCount : Answer → ℕ
-visitCount (Coded p a v) = v
-visitCount TooLong = 0
-visitCount (NotAscii at) = 0
-visitCount PrimaryShort = 0
-visitCount AlternateShort = 0
+abbrev pub visit_count : Answer → ℕ
+visit_count (Coded p a v) = v
+visit_count TooLong = 0
+visit_count (NotAscii at) = 0
+visit_count PrimaryShort = 0
+visit_count AlternateShort = 0

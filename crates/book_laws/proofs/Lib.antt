@@ -1,7 +1,7 @@
 -- What holds of station key books.
 --     Good       `book_round_trip`, `book_only`: reading a written book gives it back, and what reads as a book is its one writing
 --     Rising     `stations_rise`: station numbers rise strictly, over live and closed records
---     Answers    `book-answers`: every sequence of bytes is a book or shows one of six faults
+--     Answers    `book_answers`: every sequence of bytes is a book or shows one of six faults
 --     First      `book_first_fault`: a fault that a book's first bytes show stays, whatever stands behind
 --     Live       `live_reads`, `all_live`, `add_one_base`: the live records make a book; those of a format 1 book are all
 --     Grows      `start_reads`, `add_reads`: what starting and adding leave reads back

@@ -4,9 +4,9 @@ use Rattle.std.specs.Prelude.{ℕ, ◌≡◌, Bool, true, ◌||◌, ◌&&◌, Li
 use Rattle.fields.specs.Got.{Got, good, bad}
 use Rattle.book.specs.Book.{Book}
 
-abbrev pub isFault : ℕ → Bool
-isFault f = eqb f 1 || eqb f 2 || (leb 5 f && leb f 8)
+abbrev pub is_fault : ℕ → Bool
+is_fault f = eqb f 1 || eqb f 2 || (leb 5 f && leb f 8)
 
 pub data Answer (l : List ℕ) : Got Book → Type 0 where
   reads : (b : Book) → Answer l (good b (length l))
-  shows : (f : ℕ) → isFault f ≡ true → Answer l (bad f)
+  shows : (f : ℕ) → is_fault f ≡ true → Answer l (bad f)

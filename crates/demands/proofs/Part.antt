@@ -14,7 +14,7 @@ use Rattle.chosen.specs.declared.Choice.TheVariants.{Primary, Alternate}
 use Rattle.answers.specs.declared.Answer.{Answer}
 use Rattle.answers.specs.declared.Answer.TheVariants.{Coded}
 use Rattle.trimming.specs.Trim.{trimmed}
-use Rattle.encoder.specs.Encode.{encoder_of, number_of, primaryLength, alternateLength, primary_of, alternate_of, filled, Encoded}
+use Rattle.encoder.specs.Encode.{encoder_of, number_of, primary_length, alternate_length, primary_of, alternate_of, filled, Encoded}
 use Rattle.demands.specs.Demand2.{Walked}
 use Rattle.chosen.specs.Chosen.{front_of, chosen_of}
 use Rattle.demands.specs.Code.{code_of}
@@ -32,8 +32,8 @@ unfolding primary_of alternate_of
 chosen_code_lem {ed} {l} {w} {p} {a} {p'} {a'} {r} e c np na n q = go c (code_walked ed (code_accepted e (ap number_of q)) e)
   where
     go : (c : Choice) → Walked ed l w p a r p' a' → chosen_of c p' np a' na ≡ code_of ed l c w
-    go Primary x = rw x.primary (front_filled (primary_of ed l (trimmed w)) p np (ap primaryLength (sym x.answer ∙ q)))
-    go Alternate x = rw x.alternate (front_filled (alternate_of ed l (trimmed w)) a na (ap alternateLength (sym x.answer ∙ q)))
+    go Primary x = rw x.primary (front_filled (primary_of ed l (trimmed w)) p np (ap primary_length (sym x.answer ∙ q)))
+    go Alternate x = rw x.alternate (front_filled (alternate_of ed l (trimmed w)) a na (ap alternate_length (sym x.answer ∙ q)))
 
 -- and of a call of the encoder x that was made for an edition with the limit l
 pub part_is : {x : Encoder} {ed : Edition} {l : Limit} {w p a p' a' part : List ℕ} {r : Answer} → x ≡ encoder_of ed l → Encoded x.edition x.limit w p a r p' a'

@@ -25,13 +25,13 @@ use Rattle.ascii.proofs.High.{ascii_none, ascii_all}
 use Rattle.encoder.proofs.Codes.{primary_capped, alternate_capped, visits_capped, primary_fits, alternate_fits}
 
 module _ (ed : Edition) (l : Limit) (w p a : List ℕ) where
-  given-for : (r : Answer) → answer_of ed l w (length p) (length a) ≡ r → Given (length w) (first_high w) (length p) (length a) (need_of l (length (trimmed w))) r
-  given-for r e =
+  given_for : (r : Answer) → answer_of ed l w (length p) (length a) ≡ r → Given (length w) (first_high w) (length p) (length a) (need_of l (length (trimmed w))) r
+  given_for r e =
       subst (λ (q : Answer). Given (length w) (first_high w) (length p) (length a) (need_of l (length (trimmed w))) q) e (answer_given ed l w (length p) (length a))
 
   -- the buffers are as the answer r leaves them
   settled : (r : Answer) → answer_of ed l w (length p) (length a) ≡ r → Encoded ed l w p a r (left_by (number_of r) (primary_of ed l (trimmed w)) p) (left_by (number_of r) (alternate_of ed l (trimmed w)) a)
-  settled r e = record { given = given-for r e; answer = sym e; primary = refl; alternate = refl }
+  settled r e = record { given = given_for r e; answer = sym e; primary = refl; alternate = refl }
 
   pub too_long_lem : word_limit < length w → Encoded ed l w p a TooLong p a
   too_long_lem h = settled TooLong (rw (lt-ltb word_limit (length w) h))
@@ -58,8 +58,8 @@ module _ (ed : Edition) (l : Limit) (w p a : List ℕ) where
           alternate_is : (limited_of ed cap part).alternate ≡ alternate_of ed l (trimmed w)
           alternate_is = rw (c, t) (alternate_capped ed (trimmed w) l)
 
-          visits-are : (limited_of ed cap part).visits ≡ visits_under ed l (trimmed w)
-          visits-are = rw (c, t) (visits_capped ed (trimmed w) l)
+          visits_are : (limited_of ed cap part).visits ≡ visits_under ed l (trimmed w)
+          visits_are = rw (c, t) (visits_capped ed (trimmed w) l)
 
           pub has_room : (length (limited_of ed cap part).primary ≤ length p) × (length (limited_of ed cap part).alternate ≤ length a)
           has_room =
@@ -72,13 +72,13 @@ module _ (ed : Edition) (l : Limit) (w p a : List ℕ) where
               rw (le-ltb word_limit (length w) fits, ascii_all w ascii, ← n, le-ltb (length p) need room, le-ltb (length a) need room')
               in
               let y : tally_of (limited_of ed cap part) ≡ record { primary = length (primary_of ed l (trimmed w)); alternate = length (alternate_of ed l (trimmed w)); visits = visits_under ed l (trimmed w) } =
-              λ i. record { primary = length (primary_is i); alternate = length (alternate_is i); visits = visits-are i }
+              λ i. record { primary = length (primary_is i); alternate = length (alternate_is i); visits = visits_are i }
               in
               let z : TheVariants.Coded r.primary r.alternate r.visits ≡ answer_of ed l w (length p) (length a) =
               ap (λ (q : Tally). TheVariants.Coded q.primary q.alternate q.visits) (tr ∙ y) ∙ sym x
               in
               record {
-                given = given-for _ (sym z);
+                given = given_for _ (sym z);
                 answer = z;
                 primary = tp ∙ ap (λ (q : List ℕ). filled q p) primary_is;
                 alternate = ta ∙ ap (λ (q : List ℕ). filled q a) alternate_is;

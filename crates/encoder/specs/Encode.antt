@@ -4,7 +4,7 @@
 use Rattle.std.specs.Prelude.{ℕ, zero, suc, ◌≡◌, List, cond, ltb, length}
 pub use Rattle.walk.specs.Walk.{filled}
 pub use Rattle.terms.specs.Limits.{word_limit}
-pub use Rattle.answers.specs.Answers.{number_of, place_of, primaryLength, alternateLength, visitCount}
+pub use Rattle.answers.specs.Answers.{number_of, place_of, primary_length, alternate_length, visit_count}
 use Rattle.walk.specs.Word.{whole_of, limited_of}
 use Rattle.terms.specs.declared.Edition.{Edition}
 use Rattle.terms.specs.declared.Limit.{Limit}

@@ -4,7 +4,7 @@
 use Rattle.std.specs.Prelude.{ℕ, ◌≤◌, ◌<◌, ◌≡◌, ◌↔◌}
 use Rattle.answers.specs.declared.Answer.{Answer}
 use Rattle.terms.specs.Limits.{word_limit}
-use Rattle.answers.specs.Answers.{number_of, place_of, primaryLength, alternateLength, visitCount}
+use Rattle.answers.specs.Answers.{number_of, place_of, primary_length, alternate_length, visit_count}
 
 pub record Given (n high p a need : ℕ) (r : Answer) : Type 0 where
   pub one : (number_of r ≡ 1) ↔ (word_limit < n)
@@ -14,4 +14,4 @@ pub record Given (n high p a need : ℕ) (r : Answer) : Type 0 where
   pub accepted : (number_of r ≡ 0) ↔ ((n ≤ word_limit) × (n ≤ high) × (need ≤ p) × (need ≤ a))
   pub place : number_of r ≡ 2 → place_of r ≡ high
   pub no_place : (number_of r ≡ 2 → ⊥) → place_of r ≡ 0
-  pub nothing : 0 < number_of r → (primaryLength r ≡ 0) × (alternateLength r ≡ 0) × (visitCount r ≡ 0)
+  pub nothing : 0 < number_of r → (primary_length r ≡ 0) × (alternate_length r ≡ 0) × (visit_count r ≡ 0)

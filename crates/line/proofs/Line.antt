@@ -13,7 +13,7 @@ use Rattle.answers.specs.declared.Answer.TheVariants.{Coded}
 use Rattle.trimming.specs.Trim.{trimmed}
 use Rattle.ascii.specs.High.{first_high}
 use Rattle.terms.specs.Limits.{word_limit}
-use Rattle.encoder.specs.Encode.{default_limit, encoder_of, number_of, primaryLength, alternateLength, answer_of, primary_of, alternate_of, filled, Encoded}
+use Rattle.encoder.specs.Encode.{default_limit, encoder_of, number_of, primary_length, alternate_length, answer_of, primary_of, alternate_of, filled, Encoded}
 use Rattle.needs.specs.Needs.{need_of}
 use Rattle.demands.specs.Demand2.{Taken, Walked}
 use Rattle.ascii.proofs.High.{no_high}
@@ -78,4 +78,4 @@ module _ {x : Encoder} {w p a p' a' : List ℕ} {r : Answer} (made : x ≡ encod
   unfolding primary_of alternate_of
   coded np na n q =
       let x : Walked E1 (At default_limit) w p a r p' a' = code_walked E1 (code_accepted by_default (ap number_of q)) by_default in
-      (ap primaryLength (sym q ∙ x.answer), ap alternateLength (sym q ∙ x.answer), x.primary, x.alternate)
+      (ap primary_length (sym q ∙ x.answer), ap alternate_length (sym q ∙ x.answer), x.primary, x.alternate)

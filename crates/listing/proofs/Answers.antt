@@ -21,7 +21,7 @@ use Rattle.answers.specs.declared.Reply.TheVariants as reply
 use Rattle.trimming.specs.Trim.{trimmed}
 use Rattle.ascii.specs.High.{first_high}
 use Rattle.terms.specs.Limits.{word_limit}
-use Rattle.encoder.specs.Encode.{number_of, place_of, visitCount, visits_under, Encoded}
+use Rattle.encoder.specs.Encode.{number_of, place_of, visit_count, visits_under, Encoded}
 use Rattle.editions.specs.Editions.{reply_of, reply_number, EncodedIn}
 use Rattle.trimming.proofs.Trim.{trimmed_length}
 use Rattle.demands.proofs.Demand2.{code_accepted, code_walked}
@@ -39,10 +39,10 @@ use Rattle.row_writer.specs.Written.{edition_if, first_rows}
 module _ (n high room visits : ℕ) where
   by_tests : (u : Bool) (q₁ : Bool) → ltb word_limit n ≡ q₁ → (q₂ : Bool) → ltb high n ≡ q₂ → (q₃ : Bool) → ltb room visits ≡ q₃
       → Given u n high room visits (cond u UnknownEdition (cond q₁ TooLong (cond q₂ (NotAscii high) (cond q₃ RoomShort (Rows visits)))))
-  by_tests true q₁ e q₂ f q₃ g = of-unknown
+  by_tests true q₁ e q₂ f q₃ g = of_unknown
     where
-      of-unknown : Given true n high room visits UnknownEdition
-      of-unknown =
+      of_unknown : Given true n high room visits UnknownEdition
+      of_unknown =
           record {
             seven = (λ h. refl, λ h. refl);
             one = (λ h. absurd (omega arith), λ h. absurd (false≢true (sym h.0)));
@@ -143,30 +143,30 @@ module _ (n : ℕ) (l : Limit) (w room : List ℕ) where
       explained (rw (e, le-ltb word_limit (length w) h, le-ltb (first_high w) (length w) k) f) (rw (e, le-ltb word_limit (length w) h, le-ltb (first_high w) (length w) k) g)
 
 -- ---- the rows of the first visits
-first-many : (ed : Edition) (k : ℕ) (t : List ℕ) → k ≤ length (visits_of ed t) → length (first_rows ed k t) ≡ k
+first_many : (ed : Edition) (k : ℕ) (t : List ℕ) → k ≤ length (visits_of ed t) → length (first_rows ed k t) ≡ k
 unfolding first_rows
-first-many ed k t h = length-map (take k (visits_of ed t)) (row_at ed t) ∙ length-take-le k (visits_of ed t) h
+first_many ed k t h = length-map (take k (visits_of ed t)) (row_at ed t) ∙ length-take-le k (visits_of ed t) h
 
 module _ (ed : Edition) (k : ℕ) (t room : List ℕ) (h : k ≤ length (visits_of ed t)) where
   pub short : length room / 7 < k → (RoomShort ≡ in_room (length room) k) × (room ≡ left_in (first_rows ed k t) room)
-  short l = (rw (lt-ltb (length room / 7) k l), rw (first-many ed k t h, lt-ltb (length room / 7) k l))
+  short l = (rw (lt-ltb (length room / 7) k l), rw (first_many ed k t h, lt-ltb (length room / 7) k l))
 
   pub enough : k ≤ length room / 7 → {room' : List ℕ} → room' ≡ filled (all_numbers (first_rows ed k t)) room → (Rows k ≡ in_room (length room) k) × (room' ≡ left_in (first_rows ed k t) room)
-  enough l e = (rw (le-ltb (length room / 7) k l), rw (first-many ed k t h, le-ltb (length room / 7) k l) e)
+  enough l e = (rw (le-ltb (length room / 7) k l), rw (first_many ed k t h, le-ltb (length room / 7) k l) e)
 
 -- ---- what the encoder's answer says
-edition-back : (e : Edition) → edition_if (is_second e) ≡ e
-edition-back E1 = refl
-edition-back E2 = refl
+edition_back : (e : Edition) → edition_if (is_second e) ≡ e
+edition_back E1 = refl
+edition_back E2 = refl
 
 module _ {n : ℕ} {l : Limit} {w p a p' a' : List ℕ} {y : Reply} (e : EncodedIn n l w p a y p' a') where
   -- 7 is the edition's
-  pub asked-unknown : y ≡ reply.UnknownEdition → is_unknown n ≡ true
-  asked-unknown q = (edition_seven e).0 (ap reply_number q)
+  pub asked_unknown : y ≡ reply.UnknownEdition → is_unknown n ≡ true
+  asked_unknown q = (edition_seven e).0 (ap reply_number q)
 
   module _ (r : Answer) (q : y ≡ reply.Answered r) where
-    pub asked-known : is_unknown n ≡ false
-    asked-known = by (is_unknown n) refl
+    pub asked_known : is_unknown n ≡ false
+    asked_known = by (is_unknown n) refl
       where
         by : (b : Bool) → is_unknown n ≡ b → is_unknown n ≡ false
         by true h =
@@ -175,39 +175,39 @@ module _ {n : ℕ} {l : Limit} {w p a p' a' : List ℕ} {y : Reply} (e : Encoded
         by false h = h
 
     encoded : Encoded (edition_of n) l w p a r p' a'
-    encoded = edition_encoded asked-known (subst (λ (z : Reply). EncodedIn n l w p a z p' a') q e)
+    encoded = edition_encoded asked_known (subst (λ (z : Reply). EncodedIn n l w p a z p' a') q e)
 
-    pub answered-long : r ≡ answer.TooLong → word_limit < length w
-    answered-long f = encoded.given.one.0 (ap number_of f)
+    pub answered_long : r ≡ answer.TooLong → word_limit < length w
+    answered_long f = encoded.given.one.0 (ap number_of f)
 
-    pub answered-high : (at : ℕ) → r ≡ answer.NotAscii at → (length w ≤ word_limit) × (first_high w < length w) × (at ≡ first_high w)
-    answered-high at f =
+    pub answered_high : (at : ℕ) → r ≡ answer.NotAscii at → (length w ≤ word_limit) × (first_high w < length w) × (at ≡ first_high w)
+    answered_high at f =
         let g = encoded.given.two.0 (ap number_of f) in
         (g.0, g.1, sym (ap place_of f) ∙ encoded.given.place (ap number_of f))
 
     -- with room for any code no buffer is too short
-    pub answered-three : 2 * word_limit - 1 ≤ length p → 2 * word_limit - 1 ≤ length a → r ≡ answer.PrimaryShort → ⊥
-    answered-three i j f = never_three encoded i j (ap number_of f)
+    pub answered_three : 2 * word_limit - 1 ≤ length p → 2 * word_limit - 1 ≤ length a → r ≡ answer.PrimaryShort → ⊥
+    answered_three i j f = never_three encoded i j (ap number_of f)
 
-    pub answered-four : 2 * word_limit - 1 ≤ length p → 2 * word_limit - 1 ≤ length a → r ≡ answer.AlternateShort → ⊥
-    answered-four i j f = never_four encoded i j (ap number_of f)
+    pub answered_four : 2 * word_limit - 1 ≤ length p → 2 * word_limit - 1 ≤ length a → r ≡ answer.AlternateShort → ⊥
+    answered_four i j f = never_four encoded i j (ap number_of f)
 
     -- an code-accepted word, and its visits
     module _ (i j k : ℕ) (f : r ≡ answer.Coded i j k) where
-      pub answered-fits : (length w ≤ word_limit) × (length w ≤ first_high w)
-      answered-fits = let g = encoded.given.accepted.0 (ap number_of f) in (g.0, g.1)
+      pub answered_fits : (length w ≤ word_limit) × (length w ≤ first_high w)
+      answered_fits = let g = encoded.given.accepted.0 (ap number_of f) in (g.0, g.1)
 
-      pub answered-visits : k ≡ visits_under (edition_of n) l (trimmed w)
-      answered-visits = sym (ap visitCount f) ∙ ap visitCount (code_walked (edition_of n) (code_accepted encoded (ap number_of f)) encoded).answer
+      pub answered_visits : k ≡ visits_under (edition_of n) l (trimmed w)
+      answered_visits = sym (ap visit_count f) ∙ ap visit_count (code_walked (edition_of n) (code_accepted encoded (ap number_of f)) encoded).answer
 
       -- the rows of its first visits, by the edition that the test tells, are its listing
       module _ (second : Bool) (ed : Edition) (s : second ≡ is_second ed) (d : ed ≡ edition_of n) (t : List ℕ) (g : t ≡ trimmed w) where
-        edition-is : edition_if second ≡ edition_of n
-        edition-is = ap edition_if s ∙ edition-back ed ∙ d
+        edition_is : edition_if second ≡ edition_of n
+        edition_is = ap edition_if s ∙ edition_back ed ∙ d
 
-        pub asks-few : (length t ≤ word_limit) × (k ≤ length (visits_of (edition_if second) t))
-        asks-few = rw (g, edition-is, answered-visits) (omega (arith, trimmed_length w, answered-fits), visits_within (edition_of n) l (trimmed w))
+        pub asks_few : (length t ≤ word_limit) × (k ≤ length (visits_of (edition_if second) t))
+        asks_few = rw (g, edition_is, answered_visits) (omega (arith, trimmed_length w, answered_fits), visits_within (edition_of n) l (trimmed w))
 
         pub rows_are : first_rows (edition_if second) k t ≡ listing_of (edition_of n) l (trimmed w)
         unfolding first_rows listing_of
-        rows_are = rw (g, edition-is, answered-visits)
+        rows_are = rw (g, edition_is, answered_visits)

@@ -8,7 +8,8 @@ ghost use Rattle.std.specs.Prelude.{◌≤◌, length};
 use answers::Answer;
 use chosen::{Choice, chosen};
 use encoder::Encoder;
-use libc::{STDIN_FILENO, STDOUT_FILENO};
+use itoa::Buffer;
+use std::io;
 use terms::{CODE_ROOM, Limit};
 
 #[derive(Clone, Copy)]
@@ -41,9 +42,8 @@ fn limit_of(b: u8) -> Limit {
 
 // Whether `text` is the number in decimal digits.
 fn is_number(text: &[u8], n: usize) -> bool {
-    let mut digits = [0u8; 20];
-    let k = io::decimal(n as u64, &mut digits);
-    check::same(text, &digits[..k])
+    let mut digits = Buffer::new();
+    text == digits.format(n).as_bytes()
 }
 
 // Whether the port's answer for the word is the one that is stored.
@@ -57,8 +57,8 @@ fn is_same(limit: Limit, visits: &[u8], primary: &[u8], alternate: &[u8], word: 
             visits: n,
         } => {
             is_number(visits, n)
-                & check::same(primary, chosen(Choice::Primary, &p, np, &a, na))
-                & check::same(alternate, chosen(Choice::Alternate, &p, np, &a, na))
+                & (primary == chosen(Choice::Primary, &p, np, &a, na))
+                & (alternate == chosen(Choice::Alternate, &p, np, &a, na))
         }
         Answer::TooLong => false,
         Answer::NotAscii(_) => false,
@@ -121,12 +121,11 @@ fn replay(text: &[u8]) -> Counts {
     Counts { right, wrong }
 }
 
-fn main() {
+fn main(rt: HostRuntime) -> io::Result<()> {
     let mut text = rooms::mebibyte();
-    let n = io::read_full(STDIN_FILENO, &mut text);
+    let n = rooms::read_full(rt.stdin(), &mut text);
     let r = replay(&text[..n]);
-    io::print_decimal(STDOUT_FILENO, r.right);
-    io::write_all(STDOUT_FILENO, b" right, ");
-    io::print_decimal(STDOUT_FILENO, r.wrong);
-    io::write_all(STDOUT_FILENO, b" wrong\n");
+    let right = r.right;
+    let wrong = r.wrong;
+    println!(rt; "{right} right, {wrong} wrong")
 }

@@ -7,45 +7,46 @@ ghost use Rattle.std.specs.Prelude.{◌≤◌};
 
 use entry::Step;
 use header::{Cursor, Header, Opened};
-use libc::{STDERR_FILENO, STDIN_FILENO, STDOUT_FILENO};
 use slices::Span;
+use std::io::{Read, Stdout};
 
 // Each of these answers whether all was written. The first write that fails ends the print, and `main` tells of it.
-fn put(bytes: &[u8]) -> bool {
-    io::write_all(STDOUT_FILENO, bytes)
+fn put(output: Stdout, bytes: &[u8]) -> bool {
+    output.write_all(bytes).is_ok()
 }
 
-fn put_number(n: u64) -> bool {
-    io::print_decimal(STDOUT_FILENO, n)
+fn put_number(output: Stdout, n: u64) -> bool {
+    output.print(n).is_ok()
 }
 
-fn put_limit(cut: u32) -> bool {
+fn put_limit(output: Stdout, cut: u32) -> bool {
     if cut == 0 {
-        return put(b"no limit");
+        return put(output, b"no limit");
     }
-    put(b"limit ") && put_number((cut - 1) as u64)
+    put(output, b"limit ") && put_number(output, (cut - 1) as u64)
 }
 
-fn put_header(h: Header) -> bool {
-    put(b"format ")
-        && put_number(h.format as u64)
-        && put(b", edition ")
-        && put_number(h.edition as u64)
-        && put(b", ")
-        && put_limit(h.cut)
-        && put(b"\n")
+fn put_header(output: Stdout, h: Header) -> bool {
+    put(output, b"format ")
+        && put_number(output, h.format as u64)
+        && put(output, b", edition ")
+        && put_number(output, h.edition as u64)
+        && put(output, b", ")
+        && put_limit(output, h.cut)
+        && put(output, b"\n")
 }
 
 // What stands behind a record: nothing for a live one.
-fn put_kind(kind: u32) -> bool {
+fn put_kind(output: Stdout, kind: u32) -> bool {
     if kind == 1 {
-        return put(b"\n");
+        return put(output, b"\n");
     }
-    put(b"\tclosed\n")
+    put(output, b"\tclosed\n")
 }
 
 // The bytes of a name and of the codes go out as they are.
 fn put_record(
+    output: Stdout,
     s: &[u8],
     station: u32,
     name: Span,
@@ -53,36 +54,39 @@ fn put_record(
     alternate: Span,
     kind: u32,
 ) -> bool {
-    put_number(station as u64)
-        && put(b"\t")
-        && put(slices::bytes_of(s, name))
-        && put(b"\t")
-        && put(slices::bytes_of(s, primary))
-        && put(b"\t")
-        && put(slices::bytes_of(s, alternate))
-        && put_kind(kind)
+    put_number(output, station as u64)
+        && put(output, b"\t")
+        && put(output, slices::bytes_of(s, name))
+        && put(output, b"\t")
+        && put(output, slices::bytes_of(s, primary))
+        && put(output, b"\t")
+        && put(output, slices::bytes_of(s, alternate))
+        && put_kind(output, kind)
 }
 
-fn put_count(n: u64) -> bool {
+fn put_count(output: Stdout, n: u64) -> bool {
     if n == 1 {
-        return put(b"1 record");
+        return put(output, b"1 record");
     }
-    put_number(n) && put(b" records")
+    put_number(output, n) && put(output, b" records")
 }
 
-fn put_closed(n: u64) -> bool {
+fn put_closed(output: Stdout, n: u64) -> bool {
     if n == 0 {
-        return put(b"\n");
+        return put(output, b"\n");
     }
-    put(b", ") && put_number(n) && put(b" closed\n")
+    put(output, b", ") && put_number(output, n) && put(output, b" closed\n")
 }
 
-fn put_fault(f: u8) -> bool {
-    put(b"!") && put_number(f as u64)
+fn put_fault(output: Stdout, f: u8) -> bool {
+    put(output, b"!") && put_number(output, f as u64)
 }
 
-fn put_fault_after(f: u8, count: u64) -> bool {
-    put_fault(f) && put(b" after ") && put_count(count) && put(b"\n")
+fn put_fault_after(output: Stdout, f: u8, count: u64) -> bool {
+    put_fault(output, f)
+        && put(output, b" after ")
+        && put_count(output, count)
+        && put(output, b"\n")
 }
 
 // 1 for a closed record, which is what a count of them grows by.
@@ -93,7 +97,7 @@ fn closed_one(kind: u32) -> u64
 }
 
 // The records from a cursor on, to the end or to the first fault.
-fn put_records(s: &[u8], header: Header, first: Cursor) -> bool {
+fn put_records(output: Stdout, s: &[u8], header: Header, first: Cursor) -> bool {
     let format = header.format;
     let edition = header.edition;
     let mut cursor = first;
@@ -110,7 +114,7 @@ fn put_records(s: &[u8], header: Header, first: Cursor) -> bool {
                 next,
                 kind,
             } => {
-                if !put_record(s, station, name, primary, alternate, kind) {
+                if !put_record(output, s, station, name, primary, alternate, kind) {
                     return false;
                 }
                 cursor = next;
@@ -118,41 +122,43 @@ fn put_records(s: &[u8], header: Header, first: Cursor) -> bool {
                 closed += closed_one(kind);
             }
             Step::End => {
-                return put_count(count) && put_closed(closed);
+                return put_count(output, count) && put_closed(output, closed);
             }
             Step::Fault(f) => {
-                return put_fault_after(f, count);
+                return put_fault_after(output, f, count);
             }
         }
     }
 }
 
-fn put_book(s: &[u8]) -> bool {
+fn put_book(output: Stdout, s: &[u8]) -> bool {
     let opened = header::open(s, 1);
     match opened {
-        Opened::Book { header, first } => put_header(header) && put_records(s, header, first),
-        Opened::Fault(f) => put_fault(f) && put(b" in the header\n"),
+        Opened::Book { header, first } => put_header(output, header)
+            && put_records(output, s, header, first),
+        Opened::Fault(f) => put_fault(output, f) && put(output, b" in the header\n"),
     }
 }
 
 // The first read ends at a full room, at the end or at a read that fails; one byte more tells which it was.
-fn main() {
+fn main(rt: HostRuntime) {
+    let mut input = rt.stdin();
+    let output = rt.stdout();
+    let errors = rt.stderr();
     let mut text = rooms::mebibyte();
     let mut behind = [0u8; 1];
-    let n = io::read_full(STDIN_FILENO, &mut text);
-    let more = libc::read(STDIN_FILENO, &mut behind);
-    if more < 0 {
-        io::write_all(STDERR_FILENO, b"stations: cannot read\n");
-        return;
-    }
-    if more > 0 {
-        io::write_all(
-            STDERR_FILENO,
-            b"stations: the book is longer than 1,048,576 bytes\n",
-        );
-        return;
-    }
-    if !put_book(&text[..n]) {
-        io::write_all(STDERR_FILENO, b"stations: cannot write\n");
+    let n = rooms::read_full(input, &mut text);
+    match input.read(&mut behind) {
+        Err(_) => {
+            let _ = errors.write_all(b"stations: cannot read\n");
+        }
+        Ok(0) => {
+            if !put_book(output, &text[..n]) {
+                let _ = errors.write_all(b"stations: cannot write\n");
+            }
+        }
+        Ok(_) => {
+            let _ = errors.write_all(b"stations: the book is longer than 1,048,576 bytes\n");
+        }
     }
 }

@@ -41,18 +41,18 @@ pub type Source<'a> = &'a dyn Fn(&str) -> Result<String, Fault>;
 pub fn read(source: Source) -> Result<Table, Fault> {
     known::check(source)?;
     let items = items(TABLE, &source(TABLE)?)?;
-    let equations: Vec<&Vec<Token>> = items.iter().filter(|item| item[0].is("table")).collect();
+    let equations: Vec<&Vec<Token>> = items.iter().filter(|item| item[0].is("rows")).collect();
     let [equation] = equations[..] else {
-        return Err(Fault::new(format!("{TABLE}: `table` has {} equations, and not one", equations.len())));
+        return Err(Fault::new(format!("{TABLE}: `rows` has {} equations, and not one", equations.len())));
     };
     let uses = uses(TABLE, &items)?;
     let files = Files::of(source, uses.values())?;
     let mut rows = Vec::new();
     let mut cursor = Cursor::new(TABLE, equation);
-    cursor.expect("table")?;
+    cursor.expect("rows")?;
     cursor.expect("=")?;
     while !cursor.takes("[]") {
-        cursor.expect("letter")?;
+        cursor.expect("row")?;
         let keys = cursor.text()?;
         let name = cursor.word()?;
         let Some(found) = files.taken(&uses, &name) else {
@@ -62,8 +62,8 @@ pub fn read(source: Source) -> Result<Table, Fault> {
         cursor.expect("∷")?;
     }
     cursor.ended()?;
-    let Some(rest) = files.taken(&uses, "casesRest") else {
-        return Err(Fault::new(format!("{TABLE}: `casesRest` is defined in no file that is taken from")));
+    let Some(rest) = files.taken(&uses, "cases_rest") else {
+        return Err(Fault::new(format!("{TABLE}: `cases_rest` is defined in no file that is taken from")));
     };
     rows.push(Row { keys: String::new(), cases: Scope::of(&files, rest).row()? });
     let table = Table { rows };

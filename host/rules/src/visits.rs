@@ -1,4 +1,4 @@
-//! The visits of a word by the table, as crates/rules/specs (`holds`, `textOf`, `speaker`) and crates/walk/specs (`places`) have them.
+//! The visits of a word by the table, as crates/rules/specs (`holds`, `text_of`, `speaker`) and crates/walk/specs (`places`) have them.
 use crate::{Case, Cond, Row, Spot, Table};
 
 /// A visit: its place, the letter in capitals, its row and the case that spoke, by its number too, and the number of the text that

@@ -4,7 +4,7 @@ use std::collections::HashMap;
 
 /// Where the definition's files lie, and how a `use` names them.
 const FOLDER: &str = "crates/rules/specs/";
-const MODULE: &str = "Rattle·rules·specs.specs.";
+const MODULE: &str = "Rattle.rules.specs.";
 
 /// The modules of that folder that say what a condition, a case and a speaker are. They are not read but known.
 const OTHER: [&str; 3] = ["Cond", "Case", "Told"];

@@ -16,21 +16,21 @@ vowel = among (bytes "AEIOUY")
     (
         "crates/terms/specs/Editions.antt",
         r#"
-isSecond E1 = false
-isSecond E2 = true
+is_second E1 = false
+is_second E2 = true
 "#,
     ),
     (
         "crates/outcome/specs/Answers.antt",
         r#"
-orElse a b = cond (eqb a 0) b a
+or_else a b = cond (eqb a 0) b a
 "#,
     ),
     (
         "crates/rules/specs/Cond.antt",
         r#"
-infixl 40 _&_
-infixl 30 _or_
+infixl 40 ◌&◌
+infixl 30 ◌or◌
 pub data Spot : Type 0 where
   ahead : (k : ℕ) → Spot
   back : (k : ℕ) → Spot
@@ -49,23 +49,23 @@ pub data Cond : Type 0 where
   slavo : Cond
   edition2 : Cond
   non : Cond → Cond
-  _&_ : Cond → Cond → Cond
-  _or_ : Cond → Cond → Cond
+  ◌&◌ : Cond → Cond → Cond
+  ◌or◌ : Cond → Cond → Cond
 at (ahead k) u p f = f (p + k)
-at (back k) u p f = stepBack p k f
+at (back k) u p f = step_back p k f
 at (front k) u p f = f k
-at (rear k) u p f = fromRear u k f
+at (rear k) u p f = from_rear u k f
 holds always u p m = true
 holds (window s n ts) u p m = at s u p (λ (q : ℕ). sees u q n (map bytes ts))
-holds (byte s b) u p m = at s u p (λ (q : ℕ). byteAt u q (code b))
-holds (vowel s) u p m = at s u p (λ (q : ℕ). vowelAt u q)
+holds (byte s b) u p m = at s u p (λ (q : ℕ). byte_at u q (code b))
+holds (vowel s) u p m = at s u p (λ (q : ℕ). vowel_at u q)
 holds (place k) u p m = eqb p k
 holds (past k) u p m = ltb k p
 holds (below k) u p m = ltb p k
-holds (left k) u p m = endsAfter u p k
-holds (long n) u p m = isLong u n
-holds slavo u p m = m .mark
-holds edition2 u p m = m .second
+holds (left k) u p m = ends_after u p k
+holds (long n) u p m = is_long u n
+holds slavo u p m = m.mark
+holds edition2 u p m = m.second
 holds (non c) u p m = not (holds c u p m)
 holds (c & d) u p m = holds c u p m && holds d u p m
 holds (c or d) u p m = holds c u p m || holds d u p m
@@ -76,60 +76,60 @@ holds (c or d) u p m = holds c u p m || holds d u p m
         r#"
 case c p a n = record { when = c; primary = p; alternate = a; over = n }
 first [] u p m = adds "" "" 0
-first (c ∷ cs) u p m = cond (holds (c .when) u p m) (gives c) (first cs u p m)
+first (c ∷ cs) u p m = cond (holds c.when u p m) (gives c) (first cs u p m)
 "#,
     ),
     (
         "crates/rules/specs/Told.antt",
         r#"
-tellAt (ahead k) u p f = f (p + k)
-tellAt (back k) u p f = tellBack p k f
-tellAt (front k) u p f = f k
-tellAt (rear k) u p f = tellBack (length u) k f
-textOf always u p = 0
-textOf (window s n ts) u p = tellAt s u p (λ (q : ℕ). textAt u q n (map bytes ts))
-textOf (byte s b) u p = 0
-textOf (vowel s) u p = 0
-textOf (place k) u p = 0
-textOf (past k) u p = 0
-textOf (below k) u p = 0
-textOf (left k) u p = 0
-textOf (long n) u p = 0
-textOf slavo u p = 0
-textOf edition2 u p = 0
-textOf (non c) u p = 0
-textOf (c & d) u p = orElse (textOf c u p) (textOf d u p)
-textOf (c or d) u p = orElse (textOf c u p) (textOf d u p)
-numberedFrom i [] = []
-numberedFrom i (c ∷ cs) = number i c ∷ numberedFrom (i + 1) cs
-numbered cs = numberedFrom 1 cs
+tell_at (ahead k) u p f = f (p + k)
+tell_at (back k) u p f = tell_back p k f
+tell_at (front k) u p f = f k
+tell_at (rear k) u p f = tell_back (length u) k f
+text_of always u p = 0
+text_of (window s n ts) u p = tell_at s u p (λ (q : ℕ). text_at u q n (map bytes ts))
+text_of (byte s b) u p = 0
+text_of (vowel s) u p = 0
+text_of (place k) u p = 0
+text_of (past k) u p = 0
+text_of (below k) u p = 0
+text_of (left k) u p = 0
+text_of (long n) u p = 0
+text_of slavo u p = 0
+text_of edition2 u p = 0
+text_of (non c) u p = 0
+text_of (c & d) u p = or_else (text_of c u p) (text_of d u p)
+text_of (c or d) u p = or_else (text_of c u p) (text_of d u p)
+numbered_from i [] = []
+numbered_from i (c ∷ cs) = number i c ∷ numbered_from (i + 1) cs
+numbered cs = numbered_from 1 cs
 speaker [] u p m = spoke 0 0 (adds "" "" 0)
-speaker (k ∷ ks) u p m = cond (holds (k .case .when) u p m) (spoke (k .number) (textOf (k .case .when) u p) (gives (k .case))) (speaker ks u p m)
+speaker (k ∷ ks) u p m = cond (holds k.case.when u p m) (spoke k.number (text_of k.case.when u p) (gives k.case)) (speaker ks u p m)
 "#,
     ),
     (
         "crates/rules/specs/Table.antt",
         r#"
-letter ks cs = record { keys = ks; cases = cs }
-casesIn [] b = casesRest
-casesIn (r ∷ rs) b = cond (among (bytes (r .keys)) b) (r .cases) (casesIn rs b)
-visit u p m = first (casesIn table (getD u p 0)) u p m
-spokenAt u p m = speaker (numbered (casesIn table (getD u p 0))) u p m
+row ks cs = record { keys = ks; cases = cs }
+cases_in [] b = cases_rest
+cases_in (r ∷ rs) b = cond (among (bytes r.keys) b) r.cases (cases_in rs b)
+visit u p m = first (cases_in rows (get_or u p 0)) u p m
+spoken_at u p m = speaker (numbered (cases_in rows (get_or u p 0))) u p m
 "#,
     ),
     (
         "crates/word/specs/Mark.antt",
         r#"
-markTexts = map bytes ("W" ∷ "K" ∷ "CZ" ∷ "WITZ" ∷ [])
-markTextsBrief = map bytes ("W" ∷ "K" ∷ "CZ" ∷ [])
-slavoGermanic u = hasOne markTexts u
+mark_texts = map bytes ("W" ∷ "K" ∷ "CZ" ∷ "WITZ" ∷ [])
+mark_texts_brief = map bytes ("W" ∷ "K" ∷ "CZ" ∷ [])
+slavo_germanic u = has_one mark_texts u
 "#,
     ),
     (
         "crates/word/specs/Start.antt",
         r#"
-silentStarts = map bytes ("GN" ∷ "KN" ∷ "PN" ∷ "WR" ∷ "PS" ∷ [])
-startOf w = cond (sees (upper w) 0 2 silentStarts) 1 0
+silent_starts = map bytes ("GN" ∷ "KN" ∷ "PN" ∷ "WR" ∷ "PS" ∷ [])
+start_of w = cond (sees (upper w) 0 2 silent_starts) 1 0
 "#,
     ),
 ];

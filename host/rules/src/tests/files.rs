@@ -19,15 +19,15 @@ fn said(file: &str, old: &str, new: &str, examples: &[(&str, usize, &str)]) -> S
 #[test]
 fn a_changed_definition_makes_the_page_stale() {
     let changes = [
-        ("CasesC.antt", "case hardC \"K\" \"K\" 1", "case hardC \"K\" \"X\" 1"),
-        ("CasesC.antt", "case hardC \"K\" \"K\" 1", "case hardC \"K\" \"K\" 2"),
+        ("CasesC.antt", "case hard_c \"K\" \"K\" 1", "case hard_c \"K\" \"X\" 1"),
+        ("CasesC.antt", "case hard_c \"K\" \"K\" 1", "case hard_c \"K\" \"K\" 2"),
         ("CasesC.antt", "\"CK\" ∷ \"CG\" ∷ \"CQ\" ∷ []", "\"CK\" ∷ \"CQ\" ∷ \"CG\" ∷ []"),
         ("CasesC.antt", "non (window (ahead 2) 2 (\"HU\" ∷ []))", "non (window (ahead 2) 2 (\"HU\" ∷ \"HV\" ∷ []))"),
         ("CasesG.antt", "window (ahead 1) 2 (\"LI\" ∷ []) & non slavo", "non slavo & window (ahead 1) 2 (\"LI\" ∷ [])"),
         ("CasesG.antt", "past 3 & window (back 4)", "past 4 & window (back 4)"),
         ("CasesDL.antt", "case (left 0) \"J\" \" \" 0", "case (left 0) \"J\" \"\" 0"),
         ("Plain.antt", "swallows \"Q\" \"K\"", "swallows \"Q\" \"KK\""),
-        ("Table.antt", "letter \"K\" casesK ∷ letter \"L\" casesL", "letter \"L\" casesL ∷ letter \"K\" casesK"),
+        ("Table.antt", "row \"K\" cases_k ∷ row \"L\" cases_l", "row \"L\" cases_l ∷ row \"K\" cases_k"),
     ];
     for (file, old, new) in changes {
         let said = said(file, old, new, EXAMPLES);

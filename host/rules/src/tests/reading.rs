@@ -93,14 +93,14 @@ fn what_is_not_known_is_refused() {
     let faults = [
         // names
         ("CasesC.antt", "case CH \"X\"", "case CHE \"X\"", "`CHE` is not known here"),
-        ("CasesC.antt", "case caesar", "case casesC", "`casesC` is not known here"),
-        ("CasesG.antt", "GH = next \"H\"", "GH = soon \"H\"", "`soon` is not known here"),
-        ("CasesG.antt", "GH = next \"H\"", "GH = GN", "`GN` is not known here"),
-        ("CasesG.antt", "GH = next \"H\"", "GH = GH", "`GH` is not known here"),
-        ("CasesG.antt", "GH = next \"H\"", "GH = next H", "`H` where a text should stand"),
-        ("CasesG.antt", "GH = next \"H\"", "GH = next \"H\" xor slavo", "`xor` where the end should stand"),
-        ("CasesG.antt", "GH = next \"H\"", "GH = next \"H\" &", "the end where a word should stand"),
-        ("Plain.antt", "casesB = swallows", "casesB = swallow", "`swallow` is not known here"),
+        ("CasesC.antt", "case caesar", "case cases_c", "`cases_c` is not known here"),
+        ("CasesG.antt", "Gh = next \"H\"", "Gh = soon \"H\"", "`soon` is not known here"),
+        ("CasesG.antt", "Gh = next \"H\"", "Gh = GN", "`GN` is not known here"),
+        ("CasesG.antt", "Gh = next \"H\"", "Gh = Gh", "`Gh` is not known here"),
+        ("CasesG.antt", "Gh = next \"H\"", "Gh = next H", "`H` where a text should stand"),
+        ("CasesG.antt", "Gh = next \"H\"", "Gh = next \"H\" xor slavo", "`xor` where the end should stand"),
+        ("CasesG.antt", "Gh = next \"H\"", "Gh = next \"H\" &", "the end where a word should stand"),
+        ("Plain.antt", "cases_b = swallows", "cases_b = swallow", "`swallow` is not known here"),
         ("Plain.antt", "∷ case always sound", "∷ swallows letter sound", "`swallows` where a case should stand"),
         // spots, numbers and texts
         ("CasesMZ.antt", "window (back 4) 2", "window (behind 4) 2", "`behind` is no spot that is known here"),
@@ -126,8 +126,8 @@ fn what_is_not_known_is_refused() {
         ("CasesS.antt", "abbrev pub SH : Cond\nSH =", "abbrev pub non : Cond\nnon =", "`non` is defined twice"),
         ("CasesS.antt", "-- Schlesinger's rule", "    stray", "`stray` where the end should stand"),
         ("CasesS.antt", "-- The cases of S,", "    stray --", "an indented line that belongs to nothing"),
-        ("Table.antt", "letter \"C\" casesC", "letter \"C\" casesCC", "`casesCC` is defined in no file that is taken from"),
-        ("Table.antt", "letter \"C\" casesC", "column \"C\" casesC", "`column` where `letter` should stand"),
+        ("Table.antt", "row \"C\" cases_c", "row \"C\" cases_cc", "`cases_cc` is defined in no file that is taken from"),
+        ("Table.antt", "row \"C\" cases_c", "column \"C\" cases_c", "`column` where `row` should stand"),
     ];
     for (file, old, new, wanted) in faults {
         let fault = read(&changed(file, old, new)).expect_err(new).to_string();
@@ -139,24 +139,24 @@ fn what_is_not_known_is_refused() {
 #[test]
 fn another_meaning_is_refused() {
     let changes = [
-        ("Cond.antt", "infixl 30 _or_", "infixl 50 _or_"),
-        ("crates/terms/specs/Editions.antt", "isSecond E2 = true", "isSecond E2 = true\nisSecond E3 = true"),
+        ("Cond.antt", "infixl 30 ◌or◌", "infixl 50 ◌or◌"),
+        ("crates/terms/specs/Editions.antt", "is_second E2 = true", "is_second E2 = true\nis_second E3 = true"),
         ("Cond.antt", "holds (past k) u p m = ltb k p", "holds (past k) u p m = leb k p"),
         ("Cond.antt", "  slavo : Cond", "  slavo : Cond\n  loud : Cond"),
         ("Case.antt", "(gives c) (first cs u p m)", "(first cs u p m) (gives c)"),
-        ("Told.antt", "textOf (non c) u p = 0", "textOf (non c) u p = textOf c u p"),
-        ("crates/outcome/specs/Answers.antt", "orElse a b = cond (eqb a 0) b a", "orElse a b = cond (eqb b 0) a b"),
-        ("Table.antt", "casesIn [] b = casesRest", "casesIn [] b = casesVowel"),
+        ("Told.antt", "text_of (non c) u p = 0", "text_of (non c) u p = text_of c u p"),
+        ("crates/outcome/specs/Answers.antt", "or_else a b = cond (eqb a 0) b a", "or_else a b = cond (eqb b 0) a b"),
+        ("Table.antt", "cases_in [] b = cases_rest", "cases_in [] b = cases_vowel"),
         ("crates/byte/specs/Vowel.antt", "(bytes \"AEIOUY\")", "(bytes \"AEIOU\")"),
         ("crates/word/specs/Start.antt", "\"PN\" ∷ ", ""),
-        ("crates/word/specs/Mark.antt", "slavoGermanic u = hasOne markTexts u", "slavoGermanic u = false"),
+        ("crates/word/specs/Mark.antt", "slavo_germanic u = has_one mark_texts u", "slavo_germanic u = false"),
     ];
     for (file, old, new) in changes {
         let fault = read(&changed(file, old, new)).expect_err(new).to_string();
         assert!(fault.contains(file) && fault.contains(": not as host/rules/src/read/known.rs has it: "), "{fault}");
     }
-    let fault = read(&changed("crates/terms/specs/Editions.antt", "isSecond E1 = false", "")).expect_err("an equation is gone").to_string();
-    let gone = "host/rules/src/read/known.rs rests on this, which is gone: isSecond E1 = false";
+    let fault = read(&changed("crates/terms/specs/Editions.antt", "is_second E1 = false", "")).expect_err("an equation is gone").to_string();
+    let gone = "host/rules/src/read/known.rs rests on this, which is gone: is_second E1 = false";
     assert_eq!(fault, format!("crates/terms/specs/Editions.antt: {gone}"));
 }
 
@@ -192,15 +192,15 @@ fn what_cannot_be_said_is_refused() {
             "window (front 2) 2 (\"IE\"",
             format!("{case}there are no words for a window of width 2 at Front(2)"),
         ),
-        ("Table.antt", "∷ letter \"D\" casesD ", "", format!("{table}the rows do not have each letter from A to Z once")),
-        ("Table.antt", "letter \"D\"", "letter \"DC\"", format!("{table}the rows do not have each letter from A to Z once")),
+        ("Table.antt", "∷ row \"D\" cases_d ", "", format!("{table}the rows do not have each letter from A to Z once")),
+        ("Table.antt", "row \"D\"", "row \"DC\"", format!("{table}the rows do not have each letter from A to Z once")),
         (
             "CasesMZ.antt",
             "case TION",
             "case always \"\" \"\" 0 ∷ case TION",
             format!("{table}row T does not end at its first case `always`"),
         ),
-        ("CasesMZ.antt", "∷ case TH \"0\" \"T\" 1\n", "\n", format!("{table}the table has 118 cases, and not 119")),
+        ("CasesMZ.antt", "∷ case Th \"0\" \"T\" 1\n", "\n", format!("{table}the table has 118 cases, and not 119")),
     ];
     for (file, old, new, wanted) in faults {
         let fault = made(&changed(file, old, new), EXAMPLES).err().expect(new).to_string();

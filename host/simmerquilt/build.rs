@@ -13,7 +13,7 @@ const LIBRARY: &str = "simmerquilt";
 fn main() {
     let root = folder("CARGO_MANIFEST_DIR").join("../..");
     let out = folder("OUT_DIR");
-    // A copy of our own, since `rt ci` empties the folder that the kit writes to.
+    // A copy of our own, since the kit makes anew what lies in its own folders.
     let archive = out.join(format!("lib{LIBRARY}.a"));
 
     println!("cargo:rerun-if-env-changed=SIMMERQUILT_ARCHIVE");
@@ -37,8 +37,17 @@ fn take(made: &OsStr, archive: &Path) {
 }
 
 fn build(root: &Path, archive: &Path) {
-    for watched in ["crates", "crates.txt", "host/native-build"] {
+    for watched in ["crates.txt", "host/native-build"] {
         println!("cargo:rerun-if-changed={}", root.join(watched).display());
+    }
+    // Not a crate's out/, in which the kit writes whenever it checks.
+    for entry in fs::read_dir(root.join("crates")).expect("the crates are there") {
+        let entry = entry.expect("the crates can be listed").path();
+        for part in ["src", "specs", "proofs"].map(|part| entry.join(part)) {
+            if part.is_dir() {
+                println!("cargo:rerun-if-changed={}", part.display());
+            }
+        }
     }
     // The script builds for the machine that it runs on.
     assert_eq!(env::var("HOST"), env::var("TARGET"), "the proved library is built for this machine alone");

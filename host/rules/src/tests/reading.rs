@@ -155,7 +155,9 @@ fn another_meaning_is_refused() {
         let fault = read(&changed(file, old, new)).expect_err(new).to_string();
         assert!(fault.contains(file) && fault.contains(": not as host/rules/src/read/known.rs has it: "), "{fault}");
     }
-    let fault = read(&changed("crates/terms/specs/Editions.antt", "is_second E1 = false", "")).expect_err("an equation is gone").to_string();
+    let fault = read(&changed("crates/terms/specs/Editions.antt", "is_second E1 = false", ""))
+        .expect_err("an equation is gone")
+        .to_string();
     let gone = "host/rules/src/read/known.rs rests on this, which is gone: is_second E1 = false";
     assert_eq!(fault, format!("crates/terms/specs/Editions.antt: {gone}"));
 }

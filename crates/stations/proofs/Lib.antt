@@ -1,0 +1,2 @@
+-- Lemmas of the printed book.
+mod Moved

@@ -1,0 +1,9 @@
+-- `stations::put_records` is safe and ends, since each record moves the cursor on, and not past the end.
+use Rattle.std.proofs.Common.{◌≤◌, ◌-◌, length}
+use Rattle.stations.proofs.put_records.Given as goal
+
+abbrev pub invariant-loop-station : goal.invariant-loop-station
+invariant-loop-station l = (l.count ≤ l.cursor.at) × (l.closed ≤ l.count)
+
+abbrev pub decreases-loop-station : goal.decreases-loop-station
+decreases-loop-station l = length l.initial.s - l.cursor.at

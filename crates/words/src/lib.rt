@@ -1,3 +1,2 @@
 // No code: proofs/Known.antt proves the answers to names with known keys.
 #![tactic(auto)]
-

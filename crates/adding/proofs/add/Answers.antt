@@ -1,6 +1,5 @@
 -- `adding::add` meets its contract.
 use mathlib.Core.Path.{sym, ◌∙◌}
-use Rattle.std.proofs.Common.{rules}
 use Rattle.keying.specs.Keyed.{new_bytes, new_fault}
 use Rattle.adding.proofs.Adding.{add_unread, add_stands}
 use Rattle.adding.proofs.add.Goals as goal

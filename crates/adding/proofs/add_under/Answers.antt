@@ -1,7 +1,6 @@
 -- `adding::add_under` meets its contract: the encoder tests the name, and its buffers are long enough.
 use mathlib.Core.Path.{ap}
 use native.Mathlib.Omega.{arith}
-use Rattle.std.proofs.Common.{rules}
 use Rattle.answers.specs.Answers.{number_of}
 use Rattle.demands.proofs.Room.{never_three, never_four}
 use Rattle.keying.specs.Keyed.{new_bytes, new_fault}

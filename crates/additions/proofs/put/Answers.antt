@@ -2,7 +2,6 @@
 use mathlib.Core.List.{[], ◌∷◌}
 use mathlib.Core.Path.{refl, ◌∙◌}
 use native.Mathlib.Omega.{arith}
-use Rattle.std.proofs.Common.{rules}
 use lib.ListN.{length-set}
 use Rattle.additions.proofs.Clip.{clip_none, clip_some, together, clip_empty}
 use Rattle.additions.proofs.put.Goals as goal

@@ -1,7 +1,6 @@
 -- `additions::put_byte` meets its contract.
 use mathlib.Core.Path.{refl}
 use native.Mathlib.Omega.{arith}
-use Rattle.std.proofs.Common.{rules}
 use Rattle.additions.proofs.Clip.{clip_none, clip_last}
 use Rattle.additions.proofs.put_byte.Goals as goal
 

@@ -1,5 +1,4 @@
 -- `answers::tell_answer` meets its contract: each arm writes the numbers of its case.
-use Rattle.std.proofs.Common.{rules}
 use Rattle.answers.proofs.tell_answer.Goals as goal
 
 pub returns-in-Coded : goal.returns-in-Coded

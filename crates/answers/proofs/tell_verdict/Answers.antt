@@ -1,5 +1,4 @@
 -- `answers::tell_verdict` meets its contract: each arm writes the numbers of its case.
-use Rattle.std.proofs.Common.{rules}
 use Rattle.answers.proofs.tell_verdict.Goals as goal
 
 pub returns-in-Equal : goal.returns-in-Equal

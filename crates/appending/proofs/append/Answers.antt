@@ -1,7 +1,6 @@
 -- `appending::append` meets its contract.
 use mathlib.Core.Path.{sym, ap, ◌∙◌}
 use native.Mathlib.Omega.{arith}
-use Rattle.std.proofs.Common.{rules}
 use lib.ListN.{length}
 use Rattle.appending.specs.Ended.{behind}
 use Rattle.appending.proofs.Ends.{end_fits, appended_not, appended, station_small}

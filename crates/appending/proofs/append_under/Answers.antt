@@ -2,7 +2,6 @@
 use Prim.Native.Nat.{◌+◌}
 use mathlib.Core.Path.{ap}
 use native.Mathlib.Omega.{arith}
-use Rattle.std.proofs.Common.{rules}
 use lib.Dec.{leb}
 use lib.ListN.{length}
 use Rattle.answers.specs.Answers.{number_of}

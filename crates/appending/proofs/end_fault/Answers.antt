@@ -1,5 +1,4 @@
 -- `appending::end_fault` meets its contract.
-use Rattle.std.proofs.Common.{rules}
 use Rattle.appending.proofs.Ends.{bad_header, behind_room, good_end}
 use Rattle.appending.proofs.end_fault.Goals as goal
 

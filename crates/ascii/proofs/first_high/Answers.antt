@@ -1,9 +1,8 @@
 -- `ascii::first_high` meets its contract, since the bytes passed and the place in what is left make the place.
-use Prim.Native.Nat.{◌≤◌, ◌+◌, ◌-◌}
-use mathlib.Core.Path.{◌≡◌, ap}
+use Prim.Native.Nat.{◌-◌}
+use mathlib.Core.Path.{ap}
 use native.Mathlib.Omega.{arith}
-use Rattle.std.proofs.Common.{rules}
-use lib.ListN.{length, drop, drop_of_length-le}
+use lib.ListN.{drop_of_length-le}
 use Rattle.ascii.proofs.High.{high_here, high_behind}
 use Rattle.ascii.specs.High.{first_high}
 use Rattle.ascii.proofs.first_high.Goals as goal

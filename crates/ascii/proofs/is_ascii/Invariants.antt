@@ -1,10 +1,8 @@
 -- `ascii::is_ascii` meets its contract, since what it has seen and what is left to see are what the whole word has.
 use Prim.Native.Nat.{◌-◌}
-use mathlib.Core.Path.{◌≡◌, refl, sym, ap, ◌∙◌}
-use mathlib.Core.Bool.{not, ◌||◌}
-use Rattle.std.proofs.Common.{rules}
+use mathlib.Core.Path.{◌≡◌}
+use mathlib.Core.Bool.{◌||◌}
 use lib.ListN.{length, drop}
-use Rattle.ascii.proofs.High.{high_joins, high_whole}
 use Rattle.ascii.specs.High.{any_high}
 use Rattle.ascii.proofs.is_ascii.Given as goal
 

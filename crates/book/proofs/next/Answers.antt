@@ -1,5 +1,4 @@
 -- `book::next` meets its contract.
-use Rattle.std.proofs.Common.{rules}
 use Rattle.book.proofs.Entries.{at_unknown, at_end, at_record}
 use Rattle.book.proofs.next.Goals as goal
 

@@ -1,6 +1,5 @@
 -- `book::read` meets its contract.
 use mathlib.Core.Path.{sym, ◌∙◌}
-use Rattle.std.proofs.Common.{rules}
 use Rattle.header.specs.Head.{formats}
 use Rattle.book.proofs.Opening.{reads, reads_bad, unopened}
 use Rattle.book.proofs.read.Goals as goal

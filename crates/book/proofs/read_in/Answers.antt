@@ -1,7 +1,6 @@
 -- `book::read_in` meets its contract.
 use mathlib.Core.Path.{sym, ◌∙◌}
 use native.Mathlib.Omega.{arith}
-use Rattle.std.proofs.Common.{rules}
 use lib.ListN.{length-take}
 use Rattle.header.specs.Head.{formats}
 use Rattle.book.proofs.Room.{in_bad, in_short, in_good}

@@ -1,13 +1,10 @@
 -- `book::records_from` meets its contract. The invariant: what is left makes the whole answer; a record takes a byte at least.
-use Prim.Native.Nat.{◌≤◌, ◌-◌}
-use mathlib.Core.Path.{◌≡◌, refl, sym, ◌∙◌}
+use Prim.Native.Nat.{◌-◌}
+use mathlib.Core.Path.{refl, sym, ◌∙◌}
 use native.Mathlib.Omega.{arith}
-use Rattle.std.proofs.Common.{rules}
-use lib.ListN.{length, drop}
+use lib.ListN.{drop}
 use Rattle.book.specs.declared.Measure.{Measure}
 use Rattle.entry.specs.Entry.{read_entry}
-use Rattle.book.specs.Book.{read_entries}
-use Rattle.book.specs.Told.{surveyed, unmeasured}
 use Rattle.entry.proofs.Kind.{never_end}
 use Rattle.book.proofs.Measured.{turn, stopped, ended, counted_live, counted_closed}
 use Rattle.book.proofs.records_from.Goals as goal

@@ -1,16 +1,9 @@
 -- `book::records_from` meets its contract. The invariant: what is left makes the whole answer; a record takes a byte at least.
 use Prim.Native.Nat.{◌≤◌, ◌-◌}
-use mathlib.Core.Path.{◌≡◌, refl, sym, ◌∙◌}
-use mathlib.Core.Logic.{⊎_elim}
-use native.Mathlib.Omega.{arith}
-use Rattle.std.proofs.Common.{rules}
+use mathlib.Core.Path.{◌≡◌}
 use lib.ListN.{length, drop}
-use Rattle.book.specs.declared.Measure.{Measure}
-use Rattle.entry.specs.Entry.{read_entry}
 use Rattle.book.specs.Book.{read_entries}
 use Rattle.book.specs.Told.{surveyed, unmeasured}
-use Rattle.entry.proofs.Kind.{never_end}
-use Rattle.book.proofs.Measured.{turn, stopped, ended, counted_live, counted_closed}
 use Rattle.book.proofs.records_from.Given as goal
 
 abbrev pub invariant-loop-at : goal.invariant-loop-at

@@ -1,6 +1,5 @@
 -- `books::simmerquilt_book_close` meets its contract.
 use mathlib.Core.Path.{ap, ◌∙◌}
-use Rattle.std.proofs.Common.{rules}
 use Rattle.telling_books.specs.Numbers.{made_numbers}
 use Rattle.books.proofs.simmerquilt_book_close.Goals as goal
 

@@ -1,6 +1,5 @@
 -- `books::simmerquilt_book_next` meets its contract.
 use mathlib.Core.Path.{ap, ◌∙◌}
-use Rattle.std.proofs.Common.{rules}
 use Rattle.telling_books.specs.Numbers.{step_numbers}
 use Rattle.books.proofs.simmerquilt_book_next.Goals as goal
 

@@ -1,6 +1,5 @@
 -- `books::simmerquilt_book_open` meets its contract.
 use mathlib.Core.Path.{ap, ◌∙◌}
-use Rattle.std.proofs.Common.{rules}
 use Rattle.telling_books.specs.Numbers.{opened_numbers}
 use Rattle.books.proofs.simmerquilt_book_open.Goals as goal
 

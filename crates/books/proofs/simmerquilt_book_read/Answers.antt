@@ -1,6 +1,5 @@
 -- `books::simmerquilt_book_read` meets its contract.
 use mathlib.Core.Path.{ap, ◌∙◌}
-use Rattle.std.proofs.Common.{rules}
 use Rattle.telling_books.specs.Numbers.{whole_numbers}
 use Rattle.books.proofs.simmerquilt_book_read.Goals as goal
 

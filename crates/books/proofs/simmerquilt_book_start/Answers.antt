@@ -1,5 +1,4 @@
 -- `books::simmerquilt_book_start` meets its contract: it starts the book under the host's limit.
-use Rattle.std.proofs.Common.{rules}
 use Rattle.books.proofs.Started.{told_started}
 use Rattle.books.proofs.simmerquilt_book_start.Goals as goal
 

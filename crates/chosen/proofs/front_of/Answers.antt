@@ -1,7 +1,6 @@
 -- `chosen::front_of` meets its contract, since its test is that of `front_of`.
 use mathlib.Core.Path.{sym}
 use borrow.Author.Tests.{le-leb, lt-leb}
-use Rattle.std.proofs.Common.{rules}
 use lib.Seq.{length-take-le}
 use Rattle.chosen.proofs.front_of.Goals as goal
 

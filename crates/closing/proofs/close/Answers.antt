@@ -1,7 +1,6 @@
 -- `closing::close` meets its contract.
 use mathlib.Core.Path.{sym, ◌∙◌}
 use native.Mathlib.Omega.{arith}
-use Rattle.std.proofs.Common.{rules}
 use lib.ListN.{length-take}
 use lib.Seq.{length-take-le}
 use Rattle.closing.proofs.Closed.{close_unread, close_fits, good_entries, close_at, close_none}

@@ -2,13 +2,12 @@
 use Prim.Native.Nat.{◌-◌}
 use mathlib.Core.Path.{sym, ◌∙◌}
 use native.Mathlib.Omega.{arith}
-use Rattle.std.proofs.Common.{rules}
 use lib.ListN.{take, drop}
 use lib.Seq.{length-take-le}
 use Rattle.fields.proofs.Law.{bytes}
 use Rattle.entry.specs.Entry.{read_entry}
 use Rattle.entry.proofs.Kind.{never_end}
-use Rattle.closing_up.proofs.Up.{Upto, upto_start, upto_end, upto_never, turn, upto_passed, upto_kept}
+use Rattle.closing_up.proofs.Up.{upto_start, upto_end, upto_never, turn, upto_passed, upto_kept}
 use Rattle.closing_up.proofs.close_up.Goals as goal
 
 pub loop-at-init : goal.loop-at-init

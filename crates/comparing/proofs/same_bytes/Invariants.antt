@@ -1,12 +1,7 @@
 -- `comparing::same_bytes` meets its contract, since what is left is the same if the whole is.
 use Prim.Native.Nat.{◌-◌}
-use mathlib.Core.Bool.{true, false}
-use mathlib.Core.Path.{◌≡◌, refl, sym, ◌∙◌}
-use native.Mathlib.Omega.{arith}
-use borrow.Author.Tests.{eq-eqb, ne_eqb}
-use Rattle.std.proofs.Common.{rules}
+use mathlib.Core.Path.{◌≡◌}
 use lib.ListN.{length, drop}
-use Rattle.comparing.proofs.Bytes.{lengths_differ, same_turn, same_end}
 use Rattle.basics.specs.Same.{same}
 use Rattle.comparing.proofs.same_bytes.Given as goal
 

@@ -1,9 +1,9 @@
 -- `copying::copy_down` meets its contract. The invariant: what is still to be read is as it was, and storing what is left gives what storing all gives.
-use Prim.Native.Nat.{ℕ, ◌+◌, ◌≤◌, ◌-◌}
-use mathlib.Core.Path.{◌≡◌, refl, ap}
+use Prim.Native.Nat.{ℕ, ◌-◌}
+use mathlib.Core.Path.{refl, ap}
 use native.Mathlib.Omega.{arith}
 use lib.Seq.{sets}
-use lib.ListN.{length, take, drop, length-set}
+use lib.ListN.{take, drop, length-set}
 use Rattle.copying.proofs.Copies.{sets_still, down_one, none_left}
 use Rattle.copying.proofs.copy_down.Goals as goal
 

@@ -1,10 +1,8 @@
 -- `copying::copy_down` meets its contract. The invariant: what is still to be read is as it was, and storing what is left gives what storing all gives.
-use Prim.Native.Nat.{ℕ, ◌+◌, ◌≤◌, ◌-◌}
-use mathlib.Core.Path.{◌≡◌, refl, ap}
-use native.Mathlib.Omega.{arith}
+use Prim.Native.Nat.{◌+◌, ◌≤◌, ◌-◌}
+use mathlib.Core.Path.{◌≡◌}
 use lib.Seq.{sets}
-use lib.ListN.{length, take, drop, length-set}
-use Rattle.copying.proofs.Copies.{sets_still, down_one, none_left}
+use lib.ListN.{length, take, drop}
 use Rattle.copying.proofs.copy_down.Given as goal
 
 abbrev pub invariant-loop-i : goal.invariant-loop-i

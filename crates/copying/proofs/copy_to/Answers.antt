@@ -1,11 +1,11 @@
 -- `copying::copy_to` meets its contract. The invariant: storing what is left gives what storing all of `src` gives.
-use Prim.Native.Nat.{ℕ, ◌+◌, ◌≤◌, ◌-◌}
+use Prim.Native.Nat.{ℕ, ◌+◌, ◌-◌}
 use mathlib.Core.List.{◌∷◌}
 use mathlib.Core.Path.{◌≡◌, refl, ap}
 use native.Mathlib.Omega.{arith}
 use native.Mathlib.Numerals.{add-one}
 use lib.Seq.{sets, drop-cons}
-use lib.ListN.{length, drop, get_or, length-set, drop_of_length-le}
+use lib.ListN.{drop, get_or, length-set, drop_of_length-le}
 use Rattle.copying.proofs.Copies.{copied}
 use Rattle.copying.proofs.copy_to.Goals as goal
 

@@ -1,5 +1,4 @@
 -- `editions::encode_in` meets its contract: a number that is no edition is refused, and else the answer is `encode`'s.
-use Rattle.std.proofs.Common.{rules}
 use Rattle.editions.proofs.Editions.{unknown, known}
 use Rattle.editions.proofs.encode_in.Goals as goal
 

@@ -1,7 +1,6 @@
 -- `entry::body_at` meets its contract.
 use mathlib.Core.Path.{sym, ◌∙◌}
 use native.Mathlib.Omega.{arith}
-use Rattle.std.proofs.Common.{rules}
 use Rattle.entry.proofs.Told.{a_record, codes_bad, name_bad, station_bad, station_small}
 use Rattle.entry.proofs.body_at.Goals as goal
 

@@ -1,6 +1,5 @@
 -- `entry::codes_at` meets its contract.
 use mathlib.Core.Path.{sym, ◌∙◌}
-use Rattle.std.proofs.Common.{rules}
 use Rattle.entry.proofs.Told.{both_codes, second_code, first_code}
 use Rattle.entry.proofs.codes_at.Goals as goal
 

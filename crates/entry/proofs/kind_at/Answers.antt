@@ -2,7 +2,6 @@
 use Prim.Native.Nat.{◌+◌}
 use mathlib.Core.Path.{sym, ap, ◌∙◌, ◌≡◌}
 use native.Mathlib.Omega.{arith}
-use Rattle.std.proofs.Common.{rules}
 use lib.ListN.{drop}
 use Rattle.fields.specs.declared.Value.TheVariants as value
 use Rattle.fields.specs.Told.{value_at}

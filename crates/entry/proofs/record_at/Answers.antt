@@ -1,6 +1,5 @@
 -- `entry::record_at` meets its contract.
 use mathlib.Core.Path.{sym, ◌∙◌}
-use Rattle.std.proofs.Common.{rules}
 use Rattle.entry.proofs.Kind.{kind_body, kind_fault}
 use Rattle.entry.proofs.record_at.Goals as goal
 

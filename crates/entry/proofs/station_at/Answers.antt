@@ -1,7 +1,6 @@
 -- `entry::station_at` meets its contract.
 use mathlib.Core.Path.{sym, ◌∙◌}
 use native.Mathlib.Omega.{arith}
-use Rattle.std.proofs.Common.{rules}
 use lib.ListN.{drop}
 use Rattle.entry.specs.Entry.{rising}
 use Rattle.entry.proofs.Told.{rising_below, rising_good}

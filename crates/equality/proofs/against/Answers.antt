@@ -1,14 +1,9 @@
 -- `equality::against` meets its contract, since the room is enough for any code, so that 3 and 4 are never answered.
 use mathlib.Core.Bool.{true, false}
-use mathlib.Core.Path.{◌≡◌, ap, ◌∙◌}
+use mathlib.Core.Path.{ap, ◌∙◌}
 use native.Mathlib.Omega.{arith}
-use Rattle.std.proofs.Common.{rules}
 use Rattle.answers.specs.declared.Answer.TheVariants as said
-use Rattle.answers.specs.declared.Verdict.TheVariants.{Equal, Different}
 use Rattle.encoder.specs.Encode.{number_of}
-use Rattle.terms.specs.declared.Edition.TheVariants.{E1}
-use Rattle.demands.specs.Code.{code_of}
-use Rattle.equality.specs.Equality.{unless_refused, compared}
 use Rattle.demands.proofs.Room.{never_three, never_four}
 use Rattle.demands.proofs.Part.{part_is}
 use Rattle.equality.proofs.Asked.{told, compared_is}

@@ -3,7 +3,6 @@ use Prim.Native.Nat.{ℕ}
 use mathlib.Core.List.{List}
 use mathlib.Core.Path.{ap, ◌∙◌}
 use native.Mathlib.Omega.{arith}
-use Rattle.std.proofs.Common.{rules}
 use Rattle.answers.specs.declared.Answer.TheVariants as said
 use Rattle.encoder.specs.Encode.{number_of}
 use Rattle.terms.specs.declared.Edition.TheVariants.{E1}

@@ -1,5 +1,4 @@
 -- `explain::simmerquilt_explain` meets its contract: it tells what `listing::explain` answers under the host's limit.
-use Rattle.std.proofs.Common.{rules}
 use Rattle.explain.proofs.Face.{told_listed}
 use Rattle.explain.proofs.simmerquilt_explain.Goals as goal
 

@@ -1,5 +1,4 @@
 -- `explain::tell` meets its contract: each arm writes the numbers of its case.
-use Rattle.std.proofs.Common.{rules}
 use Rattle.explain.proofs.tell.Goals as goal
 
 pub returns-in-Rows : goal.returns-in-Rows

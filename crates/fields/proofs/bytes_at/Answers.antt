@@ -1,5 +1,4 @@
 -- `fields::bytes_at` meets its contract.
-use Rattle.std.proofs.Common.{rules}
 use Rattle.fields.proofs.Told.{bytes_there, bytes_cut}
 use Rattle.fields.proofs.bytes_at.Goals as goal
 

@@ -1,6 +1,5 @@
 -- `fields::number_at` meets its contract.
 use native.Mathlib.Omega.{arith}
-use Rattle.std.proofs.Common.{rules}
 use Rattle.fields.proofs.Told.{found, found_fits, found_bad, found_short}
 use Rattle.fields.proofs.number_at.Goals as goal
 

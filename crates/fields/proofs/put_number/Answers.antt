@@ -1,6 +1,5 @@
 -- `fields::put_number` meets its contract.
 use native.Mathlib.Omega.{arith}
-use Rattle.std.proofs.Common.{rules}
 use Rattle.fields.proofs.Put.{wide, number_put}
 use Rattle.fields.proofs.put_number.Goals as goal
 

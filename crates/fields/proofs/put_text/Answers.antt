@@ -1,6 +1,5 @@
 -- `fields::put_text` meets its contract.
 use native.Mathlib.Omega.{arith}
-use Rattle.std.proofs.Common.{rules}
 use Rattle.fields.proofs.Put.{put_length, text_length, text_put}
 use Rattle.fields.proofs.put_text.Goals as goal
 

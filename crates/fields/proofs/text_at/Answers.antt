@@ -1,6 +1,5 @@
 -- `fields::text_at` meets its contract.
 use mathlib.Core.Path.{sym, ◌∙◌}
-use Rattle.std.proofs.Common.{rules}
 use Rattle.fields.specs.Field.{any}
 use Rattle.fields.proofs.Told.{text_told, length_told}
 use Rattle.fields.proofs.text_at.Goals as goal

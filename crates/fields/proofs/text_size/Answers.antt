@@ -1,6 +1,5 @@
 -- `fields::text_size` meets its contract.
 use native.Mathlib.Omega.{arith}
-use Rattle.std.proofs.Common.{rules}
 use lib.ListN.{length}
 use Rattle.fields.proofs.Put.{wide, four, text_takes}
 use Rattle.fields.proofs.text_size.Goals as goal

@@ -2,11 +2,10 @@
 use Prim.Native.Nat.{◌-◌}
 use mathlib.Core.Path.{sym, ◌∙◌}
 use native.Mathlib.Omega.{arith}
-use Rattle.std.proofs.Common.{rules}
-use lib.ListN.{length, drop}
+use lib.ListN.{drop}
 use Rattle.entry.specs.Entry.{read_entry}
 use Rattle.entry.proofs.Kind.{never_end}
-use Rattle.finding.proofs.Seeking.{Seeking, seek_start, seek_none, seek_never, passing, seek_hit, seek_on}
+use Rattle.finding.proofs.Seeking.{seek_start, seek_none, seek_never, passing, seek_hit, seek_on}
 use Rattle.finding.proofs.find_live.Goals as goal
 
 pub loop-at-init : goal.loop-at-init

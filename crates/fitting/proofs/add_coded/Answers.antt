@@ -2,7 +2,6 @@
 use Prim.Native.Nat.{ℕ, ◌+◌}
 use mathlib.Core.List.{List}
 use native.Mathlib.Omega.{arith}
-use Rattle.std.proofs.Common.{rules}
 use Rattle.putting.specs.Laid.{entry_with}
 use Rattle.placing.specs.Placing.{station_fault}
 use Rattle.putting.proofs.Laid.{placed_fault, placed_short, placed_good}

@@ -1,6 +1,5 @@
 -- `header::known_at` meets its contract.
 use mathlib.Core.Path.{sym, ◌∙◌}
-use Rattle.std.proofs.Common.{rules}
 use lib.ListN.{drop}
 use Rattle.header.specs.Head.{known}
 use Rattle.fields.proofs.Told.{value_kept, value_refused, value_passed}

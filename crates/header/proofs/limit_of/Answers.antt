@@ -1,5 +1,4 @@
 -- `header::limit_of` meets its contract.
-use Rattle.std.proofs.Common.{rules}
 use Rattle.header.proofs.Head.{limit_at}
 use Rattle.header.proofs.limit_of.Goals as goal
 

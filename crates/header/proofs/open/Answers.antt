@@ -1,6 +1,5 @@
 -- `header::open` meets its contract.
 use mathlib.Core.Path.{sym, ◌∙◌}
-use Rattle.std.proofs.Common.{rules}
 use Rattle.header.specs.Head.{formats}
 use Rattle.header.proofs.Opening.{opens, opens_third, opens_second, opens_first}
 use Rattle.header.proofs.open.Goals as goal

@@ -1,5 +1,4 @@
 -- `header::unknown_fault` meets its contract.
-use Rattle.std.proofs.Common.{rules}
 use Rattle.header.proofs.Head.{unknown_format, unknown_edition}
 use Rattle.header.proofs.unknown_fault.Goals as goal
 

@@ -1,6 +1,5 @@
 -- `joins::simmerquilt_join` meets its contract.
 use mathlib.Core.Path.{ap, ◌∙◌}
-use Rattle.std.proofs.Common.{rules}
 use lib.ListN.{length}
 use Rattle.chosen.specs.declared.Choice.{Choice}
 use Rattle.book.specs.Book.{read_book}

@@ -1,5 +1,5 @@
 -- `letters_c::handle_c_next` meets its contract: at each return the tests on the way lead the tree there.
-use mathlib.Core.Path.{refl, sym, ◌∙◌}
+use mathlib.Core.Path.{sym, ◌∙◌}
 use Rattle.rules.specs.Told.{text_of}
 use Rattle.rules.specs.Cond.{holds}
 use Rattle.rules.proofs.Tree.{said, says, texts, tells}

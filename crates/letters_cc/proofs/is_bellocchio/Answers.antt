@@ -1,5 +1,4 @@
 -- `letters_cc::is_bellocchio` meets its contract: its expression is the condition.
-use mathlib.Core.Path.{refl}
 use Rattle.rules.specs.Cond.{holds}
 use Rattle.letters_cc.proofs.is_bellocchio.Goals as goal
 

@@ -1,5 +1,4 @@
 -- `letters_ch::c0_text` meets its contract: its numbers are those of the condition.
-use mathlib.Core.Path.{refl}
 use Rattle.rules.specs.Told.{text_of}
 use Rattle.letters_ch.proofs.c0_text.Goals as goal
 

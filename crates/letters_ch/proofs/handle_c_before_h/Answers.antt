@@ -1,5 +1,5 @@
 -- `letters_ch::handle_c_before_h` meets its contract: at each return the tests on the way lead the tree there.
-use mathlib.Core.Path.{refl, sym, ◌∙◌}
+use mathlib.Core.Path.{sym, ◌∙◌}
 use Rattle.rules.specs.Cond.{holds}
 use Rattle.rules.proofs.Tree.{said, says, texts}
 use Rattle.letters_ch.specs.Trees.{tree_c_before_h}

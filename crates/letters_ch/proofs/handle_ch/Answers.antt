@@ -1,5 +1,4 @@
 -- `letters_ch::handle_ch` meets its contract: at each return the tests on the way lead the tree there.
-use mathlib.Core.Path.{refl}
 use Rattle.rules.specs.Cond.{holds}
 use Rattle.rules.proofs.Tree.{said, says, texts}
 use Rattle.letters_ch.specs.Trees.{tree_ch}

@@ -1,6 +1,6 @@
 -- `letters_ch::is_ach` meets its contract: its expression is the condition but for the second place-below-2 test, which never
 -- matters.
-use mathlib.Core.Path.{refl, sym, ◌∙◌}
+use mathlib.Core.Path.{sym, ◌∙◌}
 use Rattle.byte.specs.Text.{upper}
 use Rattle.rules.specs.Cond.{holds, plain}
 use Rattle.rules.proofs.Idle.{ach_once}

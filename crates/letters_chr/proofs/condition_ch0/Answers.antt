@@ -1,5 +1,4 @@
 -- `letters_chr::condition_ch0` meets its contract: its expression is the condition.
-use mathlib.Core.Path.{refl}
 use Rattle.rules.specs.Cond.{holds}
 use Rattle.letters_chr.proofs.condition_ch0.Goals as goal
 

@@ -1,5 +1,4 @@
 -- `letters_chr::condition_ch1` meets its contract: its expression is the condition.
-use mathlib.Core.Path.{refl}
 use Rattle.rules.specs.Cond.{holds}
 use Rattle.letters_chr.proofs.condition_ch1.Goals as goal
 

@@ -1,5 +1,4 @@
 -- `letters_chr::is_kh_before` meets its contract: its expression is the condition.
-use mathlib.Core.Path.{refl}
 use Rattle.rules.specs.Cond.{holds}
 use Rattle.letters_chr.proofs.is_kh_before.Goals as goal
 

@@ -1,5 +1,5 @@
 -- `letters_chr::is_van_or_von` meets its contract: each edition asks its own window; edition 1's is asked for the two texts one by one.
-use mathlib.Core.Path.{refl, sym, ap₂, ◌∙◌}
+use mathlib.Core.Path.{sym, ap₂, ◌∙◌}
 use mathlib.Core.Bool.{◌||◌, or-false}
 use Rattle.windows.proofs.Facts.{sees_two}
 use Rattle.rules.specs.Cond.{holds}

@@ -1,5 +1,4 @@
 -- `letters_g::is_gli` meets its contract: its expression is the condition.
-use mathlib.Core.Path.{refl}
 use Rattle.rules.specs.Cond.{holds}
 use Rattle.letters_g.proofs.is_gli.Goals as goal
 

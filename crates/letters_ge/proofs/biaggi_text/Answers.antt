@@ -1,5 +1,5 @@
 -- `letters_ge::biaggi_text` meets its contract: its number is that of the condition.
-use mathlib.Core.Path.{refl, sym, ◌∙◌}
+use mathlib.Core.Path.{sym, ◌∙◌}
 use Rattle.rules.specs.Told.{text_of}
 use Rattle.rules.proofs.Told.{exactly, told_first, told_else}
 use Rattle.letters_ge.proofs.Exact.{exact_biaggi}

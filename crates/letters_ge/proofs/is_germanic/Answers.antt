@@ -1,5 +1,4 @@
 -- `letters_ge::is_germanic` meets its contract: its expression is the condition.
-use mathlib.Core.Path.{refl}
 use Rattle.rules.specs.Cond.{holds}
 use Rattle.letters_ge.proofs.is_germanic.Goals as goal
 

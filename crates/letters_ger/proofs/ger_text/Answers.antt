@@ -1,5 +1,5 @@
 -- `letters_ger::ger_text` meets its contract: its window tells all that the condition tells.
-use mathlib.Core.Path.{refl, ◌∙◌}
+use mathlib.Core.Path.{◌∙◌}
 use Rattle.letters_ger.proofs.Texts.{ger_told}
 use Rattle.letters_ger.proofs.ger_text.Goals as goal
 

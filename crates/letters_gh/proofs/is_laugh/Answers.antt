@@ -1,5 +1,4 @@
 -- `letters_gh::is_laugh` meets its contract: its expression is the condition.
-use mathlib.Core.Path.{refl}
 use Rattle.rules.specs.Cond.{holds}
 use Rattle.letters_gh.proofs.is_laugh.Goals as goal
 

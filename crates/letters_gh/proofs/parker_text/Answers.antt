@@ -1,5 +1,4 @@
 -- `letters_gh::parker_text` meets its contract: its numbers are those of the condition.
-use mathlib.Core.Path.{refl}
 use Rattle.rules.specs.Told.{text_of}
 use Rattle.rules.proofs.Told.{exactly}
 use Rattle.letters_gh.proofs.Exact.{exact_parker}

@@ -1,6 +1,6 @@
 -- `letters_gn::is_gn_other` meets its contract: its expression is the condition but for the Y test, which never matters
 -- before N.
-use mathlib.Core.Path.{refl, sym, ap, ◌∙◌}
+use mathlib.Core.Path.{sym, ap, ◌∙◌}
 use mathlib.Core.Bool.{Bool, not, ◌&&◌}
 use Rattle.byte.specs.Text.{upper}
 use Rattle.rules.specs.Cond.{holds, marked}

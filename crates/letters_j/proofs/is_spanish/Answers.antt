@@ -1,5 +1,5 @@
 -- `letters_j::is_spanish` meets its contract: where JOSE stands it holds, else SAN tells.
-use mathlib.Core.Path.{refl, sym, ap, ◌∙◌}
+use mathlib.Core.Path.{sym, ap, ◌∙◌}
 use mathlib.Core.Bool.{Bool, ◌||◌}
 use Rattle.byte.specs.Text.{upper}
 use Rattle.rules.specs.Cond.{holds, plain}

@@ -1,5 +1,4 @@
 -- `letters_j::is_spanish_h` meets its contract: its expression is the condition.
-use mathlib.Core.Path.{refl}
 use Rattle.rules.specs.Cond.{holds}
 use Rattle.letters_j.proofs.is_spanish_h.Goals as goal
 

@@ -1,5 +1,4 @@
 -- `letters_j_other::is_plain_j` meets its contract: its expression is the condition.
-use mathlib.Core.Path.{refl}
 use Rattle.rules.specs.Cond.{holds}
 use Rattle.letters_j_other.proofs.is_plain_j.Goals as goal
 

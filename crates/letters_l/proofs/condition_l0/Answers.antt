@@ -1,5 +1,4 @@
 -- `letters_l::condition_l0` meets its contract: its expression is the condition.
-use mathlib.Core.Path.{refl}
 use Rattle.rules.specs.Cond.{holds}
 use Rattle.letters_l.proofs.condition_l0.Goals as goal
 

@@ -1,5 +1,5 @@
 -- `letters_l::l0_text` meets its contract: its window tells all that the condition tells.
-use mathlib.Core.Path.{refl, ◌∙◌}
+use mathlib.Core.Path.{◌∙◌}
 use Rattle.rules.specs.Told.{text_of}
 use Rattle.letters_l.proofs.Texts.{l0_told}
 use Rattle.letters_l.proofs.l0_text.Goals as goal

@@ -1,5 +1,4 @@
 -- `letters_m::m0_text` meets its contract: its numbers are those of the condition.
-use mathlib.Core.Path.{refl}
 use Rattle.rules.specs.Told.{text_of}
 use Rattle.letters_m.proofs.m0_text.Goals as goal
 

@@ -1,5 +1,4 @@
 -- `letters_r::handle_r` meets its contract: at each return the tests on the way lead the tree there.
-use Rattle.std.proofs.Common.{rules}
 use Rattle.rules.specs.Cond.{holds}
 use Rattle.rules.proofs.Tree.{spoken, says-marked, texts}
 use Rattle.letters_r.specs.Trees.{tree_r}

@@ -1,5 +1,5 @@
 -- `letters_s::handle_s_before` meets its contract: at each return the tests on the way lead the tree there.
-use mathlib.Core.Path.{refl, sym, ◌∙◌}
+use mathlib.Core.Path.{sym, ◌∙◌}
 use Rattle.rules.specs.Cond.{holds}
 use Rattle.rules.proofs.Tree.{spoken, says-marked, texts, tells}
 use Rattle.letters_s.specs.Trees.{tree_s_other, tree_s, tree_sh, tree_sio}

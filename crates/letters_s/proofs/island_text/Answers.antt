@@ -1,5 +1,4 @@
 -- `letters_s::island_text` meets its contract: its number is that of the condition.
-use mathlib.Core.Path.{refl}
 use native.Mathlib.Omega.{arith}
 use Rattle.rules.specs.Told.{text_of}
 use Rattle.rules.proofs.Told.{exactly, exact_past}

@@ -1,5 +1,5 @@
 -- `letters_s::sio_text` meets its contract: its number is that of the condition, SIAN being a SIA.
-use mathlib.Core.Path.{refl, ◌∙◌}
+use mathlib.Core.Path.{◌∙◌}
 use Rattle.rules.specs.Told.{text_of}
 use Rattle.rules.proofs.Told.{exactly}
 use Rattle.letters_s.proofs.Texts.{sio_told, exact_sio}

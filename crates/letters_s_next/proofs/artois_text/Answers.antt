@@ -1,5 +1,4 @@
 -- `letters_s_next::artois_text` meets its contract: its number is that of the condition, and where that holds it is not 0.
-use mathlib.Core.Path.{refl}
 use Rattle.rules.specs.Told.{text_of}
 use Rattle.letters_s_next.proofs.Texts.{artois_told}
 use Rattle.letters_s_next.proofs.artois_text.Goals as goal

@@ -1,6 +1,5 @@
 -- `letters_s_next::handle_s_last` meets its contract: at each return the tests on the way lead the tree there.
-use mathlib.Core.Path.{refl, sym, ◌∙◌}
-use Rattle.std.proofs.Common.{rules}
+use mathlib.Core.Path.{sym, ◌∙◌}
 use Rattle.rules.specs.Told.{text_of}
 use Rattle.rules.specs.Cond.{holds}
 use Rattle.rules.proofs.Tree.{said, says, texts, tells}

@@ -1,5 +1,4 @@
 -- `letters_s_next::is_smith` meets its contract: its expression is the condition.
-use mathlib.Core.Path.{refl}
 use Rattle.rules.specs.Cond.{holds}
 use Rattle.letters_s_next.proofs.is_smith.Goals as goal
 

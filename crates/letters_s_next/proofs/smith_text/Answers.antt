@@ -1,5 +1,4 @@
 -- `letters_s_next::smith_text` meets its contract: its numbers are those of the condition, beside which Z tells nothing more.
-use mathlib.Core.Path.{refl}
 use Rattle.rules.specs.Told.{text_of}
 use Rattle.letters_s_next.proofs.Texts.{smith_z, twice}
 use Rattle.letters_s_next.proofs.smith_text.Goals as goal

@@ -1,5 +1,5 @@
 -- `letters_sc::handle_sc` meets its contract: at each return the tests on the way lead the tree there.
-use mathlib.Core.Path.{refl, sym, ◌∙◌}
+use mathlib.Core.Path.{sym, ◌∙◌}
 use Rattle.rules.specs.Cond.{holds}
 use Rattle.basics.proofs.Tests.{also}
 use Rattle.rules.proofs.Tree.{said, says, texts}

@@ -1,5 +1,4 @@
 -- `letters_t::is_thomas` meets its contract: its expression is the condition.
-use mathlib.Core.Path.{refl}
 use Rattle.rules.specs.Cond.{holds}
 use Rattle.letters_t.proofs.is_thomas.Goals as goal
 

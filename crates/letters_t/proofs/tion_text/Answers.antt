@@ -1,5 +1,5 @@
 -- `letters_t::tion_text` meets its contract: its number is that of the condition.
-use mathlib.Core.Path.{refl, sym, ◌∙◌}
+use mathlib.Core.Path.{sym, ◌∙◌}
 use Rattle.rules.specs.Told.{text_of}
 use Rattle.rules.proofs.Told.{told_first, told_else, exactly, exact_or, exact_window}
 use Rattle.letters_t.proofs.tion_text.Goals as goal

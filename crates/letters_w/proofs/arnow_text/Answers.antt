@@ -1,5 +1,4 @@
 -- `letters_w::arnow_text` meets its contract: its numbers are those of the condition.
-use mathlib.Core.Path.{refl}
 use Rattle.rules.specs.Told.{text_of}
 use Rattle.letters_w.proofs.arnow_text.Goals as goal
 

@@ -1,5 +1,4 @@
 -- `letters_w::handle_first_w` meets its contract: at each return the tests on the way lead the tree there.
-use mathlib.Core.Path.{refl}
 use Rattle.rules.specs.Cond.{holds}
 use Rattle.rules.specs.Told.{text_of}
 use Rattle.rules.proofs.Tree.{said, says, texts}

@@ -1,6 +1,4 @@
 -- `letters_x::handle_x_later` meets its contract: at each return the tests on the way lead the tree there.
-use mathlib.Core.Path.{refl}
-use Rattle.std.proofs.Common.{rules}
 use Rattle.rules.specs.Cond.{holds}
 use Rattle.rules.specs.Told.{text_of}
 use Rattle.rules.proofs.Tree.{said, says, tells}

@@ -1,6 +1,5 @@
 -- `line::refuse` meets its contract: three bytes are stored at the front.
 use Prim.Native.Nat.{◌+◌}
-use Rattle.std.proofs.Common.{rules}
 use Rattle.line.proofs.Place.{three}
 use Rattle.line.proofs.refuse.Goals as goal
 

@@ -1,5 +1,4 @@
 -- `listing::list` meets its contract: where the rows do not all fit the room is as it was, else they are written.
-use Rattle.std.proofs.Common.{rules}
 use Rattle.row_writer.specs.Written.{edition_if}
 use Rattle.listing.proofs.Answers.{short, enough}
 use Rattle.listing.proofs.list.Goals as goal

@@ -1,7 +1,6 @@
 -- `name::name_at` meets its contract.
 use mathlib.Core.Path.{sym, ◌∙◌}
 use native.Mathlib.Omega.{arith}
-use Rattle.std.proofs.Common.{rules}
 use lib.ListN.{drop}
 use Rattle.name.specs.Named.{name_length, name_byte}
 use Rattle.fields.proofs.Told.{value_kept, value_refused, value_passed, text_told, length_told}

@@ -1,5 +1,4 @@
 -- `name::name_bytes` meets its contract.
-use Rattle.std.proofs.Common.{rules}
 use Rattle.name.proofs.Told.{name_refused, name_clean, name_part}
 use Rattle.name.proofs.name_bytes.Goals as goal
 

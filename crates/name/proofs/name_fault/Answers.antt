@@ -1,6 +1,5 @@
 -- `name::name_fault` meets its contract.
 use mathlib.Core.Path.{sym, ◌∙◌}
-use Rattle.std.proofs.Common.{rules}
 use Rattle.name.proofs.Told.{ascii_clean, ascii_bad}
 use Rattle.name.proofs.name_fault.Goals as goal
 

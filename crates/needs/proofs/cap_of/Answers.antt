@@ -1,6 +1,5 @@
 -- `needs::cap_of` meets its contract, since its arms are the cases of `cap_of`.
 use mathlib.Core.Path.{sym, ap}
-use Rattle.std.proofs.Common.{rules}
 use Rattle.terms.specs.declared.Limit.{Limit}
 use Rattle.needs.specs.Needs.{cap_of}
 use Rattle.needs.proofs.cap_of.Goals as goal

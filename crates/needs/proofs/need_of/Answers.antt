@@ -1,6 +1,5 @@
 -- `needs::need_of` meets its contract, since each of its ways is a case of `need_of`.
 use native.Mathlib.Omega.{arith}
-use Rattle.std.proofs.Common.{rules}
 use Rattle.needs.proofs.Needs.{need_none}
 use Rattle.needs.proofs.need_of.Goals as goal
 

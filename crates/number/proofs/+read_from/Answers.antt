@@ -8,7 +8,7 @@ use borrow.Author.Tests.{lt-ltb, le-ltb, eq-eqb, ne_eqb}
 use lib.ListN.{drop_of_length-le}
 use Rattle.number.specs.declared.Found.TheVariants.{Number}
 use Rattle.number.specs.Septets.{behind}
-use Rattle.number.proofs.Laws.{Bounds, bounds, low, three, combined, reads_empty, reads_at}
+use Rattle.number.proofs.Laws.{bounds, low, three, combined, reads_empty, reads_at}
 use Rattle.number.proofs.+read_from.Goals as goal
 
 pub returns-then-s-at : goal.returns-then-s-at

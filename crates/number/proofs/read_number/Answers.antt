@@ -3,7 +3,6 @@ use Prim.Native.Nat.{ℕ}
 use mathlib.Core.Path.{sym, ap, ◌∙◌}
 use mathlib.Core.Bool.{true}
 use native.Mathlib.Omega.{arith}
-use Rattle.std.proofs.Common.{rules}
 use borrow.Author.Tests.{lt-ltb}
 use lib.ListN.{drop, drop_of_length-le}
 use Rattle.number.specs.declared.Found.TheVariants.{Number}

@@ -2,7 +2,6 @@
 use Prim.Native.Nat.{ℕ, ◌+◌}
 use mathlib.Core.Path.{ap, sym, ◌∙◌}
 use native.Mathlib.Omega.{arith}
-use Rattle.std.proofs.Common.{rules}
 use Rattle.number.specs.declared.Wrote.TheVariants.{Next}
 use Rattle.number.proofs.Laws.{too_large, no_room_lem, room}
 use Rattle.number.proofs.write_number.Goals as goal

@@ -1,7 +1,6 @@
 -- `putting::entry_size` meets its contract.
 use mathlib.Core.Path.{sym, ap, ◌∙◌}
 use native.Mathlib.Omega.{arith}
-use Rattle.std.proofs.Common.{rules}
 use lib.ListN.{length}
 use Rattle.putting.proofs.Laid.{entry_bare, one_more, record_small}
 use Rattle.putting.proofs.entry_size.Goals as goal

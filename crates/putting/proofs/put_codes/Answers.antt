@@ -1,6 +1,5 @@
 -- `putting::put_codes` meets its contract.
 use native.Mathlib.Omega.{arith}
-use Rattle.std.proofs.Common.{rules}
 use lib.ListN.{length-append}
 use Rattle.fields.proofs.Put.{put_length, put_then}
 use Rattle.fields.specs.Field.{text}

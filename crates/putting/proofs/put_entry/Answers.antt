@@ -1,7 +1,6 @@
 -- `putting::put_entry` meets its contract.
 use mathlib.Core.Path.{ap}
 use native.Mathlib.Omega.{arith}
-use Rattle.std.proofs.Common.{rules}
 use lib.ListN.{length, length-append}
 use Rattle.fields.specs.Field.{number}
 use Rattle.fields.proofs.Put.{put_then, put_length}

@@ -1,5 +1,4 @@
 -- `putting::put_header` meets its contract.
-use Rattle.std.proofs.Common.{rules}
 use Rattle.fields.proofs.Put.{put_then}
 use Rattle.putting.proofs.put_header.Goals as goal
 

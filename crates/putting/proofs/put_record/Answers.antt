@@ -1,6 +1,5 @@
 -- `putting::put_record` meets its contract.
 use native.Mathlib.Omega.{arith}
-use Rattle.std.proofs.Common.{rules}
 use Rattle.fields.proofs.Put.{put_length}
 use Rattle.putting.proofs.Laid.{record_length, record_put}
 use Rattle.putting.proofs.put_record.Goals as goal

@@ -1,6 +1,5 @@
 -- `putting::record_size` meets its contract: no record comes near the largest `usize`.
 use native.Mathlib.Omega.{arith}
-use Rattle.std.proofs.Common.{rules}
 use lib.ListN.{length}
 use Rattle.fields.proofs.Put.{wide, four, text_length}
 use Rattle.putting.proofs.Laid.{record_takes}

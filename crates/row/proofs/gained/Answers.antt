@@ -1,5 +1,4 @@
 -- `row::gained` meets its contract: each kind of addition gives its number.
-use Rattle.std.proofs.Common.{rules}
 use Rattle.row.proofs.Stored.{two_gained}
 use Rattle.row.proofs.gained.Goals as goal
 

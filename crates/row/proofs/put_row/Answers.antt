@@ -1,6 +1,5 @@
 -- `row::put_row` meets its contract: its seven stores are the row's numbers, from `at` on.
 use native.Mathlib.Omega.{arith}
-use Rattle.std.proofs.Common.{rules}
 use lib.ListN.{length-set}
 use Rattle.row.proofs.Stored.{row_stored}
 use Rattle.row.proofs.put_row.Goals as goal

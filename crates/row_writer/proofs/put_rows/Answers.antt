@@ -1,14 +1,12 @@
 -- `row_writer::put_rows` meets its contract. The invariant, `Going`, says that the rows written and those still to come from here on are
 -- all; the measure is how many are still to come.
-use Prim.Native.Nat.{◌-◌, ◌*◌, ◌≤◌, ◌<◌}
+use Prim.Native.Nat.{◌-◌, ◌*◌}
 use mathlib.Core.Path.{ap, ◌∙◌}
 use native.Mathlib.Omega.{arith}
-use Rattle.std.proofs.Common.{rules}
-use lib.ListN.{length}
 use lib.Seq.{sets}
 use Rattle.row.specs.Numbers.{Row, numbers_of}
 use Rattle.row_writer.specs.Written.{edition_if}
-use Rattle.row_writer.proofs.Written.{Going, going, inside, room_for, turned, all_written, over_is, over_few, fits_row, row_is}
+use Rattle.row_writer.proofs.Written.{going, inside, room_for, turned, all_written, over_is, over_few, fits_row, row_is}
 use Rattle.row_writer.proofs.put_rows.Goals as goal
 
 pub loop-k-init : goal.loop-k-init

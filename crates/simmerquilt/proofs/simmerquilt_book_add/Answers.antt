@@ -1,6 +1,5 @@
 -- `simmerquilt::simmerquilt_book_add` meets its contract.
 use mathlib.Core.Path.{ap, ◌∙◌}
-use Rattle.std.proofs.Common.{rules}
 use Rattle.telling_books.specs.Numbers.{made_numbers}
 use Rattle.simmerquilt.proofs.simmerquilt_book_add.Goals as goal
 

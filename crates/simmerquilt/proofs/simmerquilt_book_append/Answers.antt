@@ -1,6 +1,5 @@
 -- `simmerquilt::simmerquilt_book_append` meets its contract.
 use mathlib.Core.Path.{ap, ◌∙◌}
-use Rattle.std.proofs.Common.{rules}
 use Rattle.telling_books.specs.Numbers.{ended_numbers}
 use Rattle.simmerquilt.proofs.simmerquilt_book_append.Goals as goal
 

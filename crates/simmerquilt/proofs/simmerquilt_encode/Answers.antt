@@ -1,5 +1,4 @@
 -- `simmerquilt::simmerquilt_encode` meets its contract: it tells what `encode` answers under the host's limit.
-use Rattle.std.proofs.Common.{rules}
 use Rattle.simmerquilt.proofs.Face.{told_encoded}
 use Rattle.simmerquilt.proofs.simmerquilt_encode.Goals as goal
 

@@ -1,5 +1,4 @@
 -- `simmerquilt::simmerquilt_encode_in` meets its contract: it tells what `encode_in` replies under the host's limit.
-use Rattle.std.proofs.Common.{rules}
 use Rattle.simmerquilt.proofs.Face.{told_in}
 use Rattle.simmerquilt.proofs.simmerquilt_encode_in.Goals as goal
 

@@ -1,6 +1,5 @@
 -- `slices::bytes_of` meets its contract: the two tests are that of `within`.
 use native.Mathlib.Omega.{arith}
-use Rattle.std.proofs.Common.{rules}
 use Rattle.slices.proofs.Parts.{outside, inside}
 use Rattle.slices.proofs.bytes_of.Goals as goal
 

@@ -1,6 +1,5 @@
 -- `spots::char_ahead` meets its contract: past the end there is no byte, and before it the capital is compared.
 use native.Mathlib.Omega.{arith}
-use Rattle.std.proofs.Common.{rules}
 use Rattle.spots.proofs.Spots.{byte_past, byte_there}
 use Rattle.spots.proofs.char_ahead.Goals as goal
 

@@ -1,6 +1,5 @@
 -- `spots::char_behind` meets its contract: a place below 0 is no match.
 use native.Mathlib.Nat.{add-zero}
-use Rattle.std.proofs.Common.{rules}
 use borrow.Author.Tests.{le-leb, lt-leb}
 use Rattle.spots.proofs.char_behind.Goals as goal
 

@@ -1,5 +1,4 @@
 -- `spots::from_end` meets its contract.
-use Rattle.std.proofs.Common.{rules}
 use Rattle.spots.proofs.Spots.{no_end, at_end}
 use Rattle.spots.proofs.from_end.Goals as goal
 

@@ -1,7 +1,6 @@
 -- `spots::vowel_ahead` meets its contract.
 use mathlib.Core.Path.{ap, ◌∙◌}
 use native.Mathlib.Omega.{arith}
-use Rattle.std.proofs.Common.{rules}
 use Rattle.byte.specs.Vowel.{vowel}
 use Rattle.spots.proofs.Spots.{vowel_past, vowel_there}
 use Rattle.spots.proofs.vowel_ahead.Goals as goal

@@ -1,7 +1,6 @@
 -- `starting::begin` meets its contract.
 use mathlib.Core.Path.{refl}
 use native.Mathlib.Omega.{arith}
-use Rattle.std.proofs.Common.{rules}
 use Rattle.starting.specs.New.{new_header}
 use Rattle.header.specs.Head.{header_bytes}
 use Rattle.fields.proofs.Put.{wide, four}

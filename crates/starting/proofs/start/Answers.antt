@@ -2,7 +2,6 @@
 use Prim.Native.Nat.{◌+◌}
 use mathlib.Core.Path.{ap}
 use native.Mathlib.Omega.{arith}
-use Rattle.std.proofs.Common.{rules}
 use Rattle.header.specs.Head.{cut_of}
 use Rattle.starting.proofs.New.{started, over_cut}
 use Rattle.starting.proofs.start.Goals as goal

@@ -1,5 +1,4 @@
 -- `tally::append_alternate` meets its contract, from what `longer` ensures.
-use Rattle.std.proofs.Common.{rules}
 use Rattle.tally.proofs.append_alternate.Goals as goal
 
 pub returns : goal.returns

@@ -1,5 +1,4 @@
 -- `tally::append_primary` meets its contract, from what `longer` ensures.
-use Rattle.std.proofs.Common.{rules}
 use Rattle.tally.proofs.append_primary.Goals as goal
 
 pub returns : goal.returns

@@ -1,5 +1,4 @@
 -- `telling_books::tell_ended` meets its contract: each arm writes the numbers of its case.
-use Rattle.std.proofs.Common.{rules}
 use Rattle.telling_books.proofs.tell_ended.Goals as goal
 
 pub returns-in-At : goal.returns-in-At

@@ -1,5 +1,4 @@
 -- `telling_books::tell_made` meets its contract: each arm writes the numbers of its case.
-use Rattle.std.proofs.Common.{rules}
 use Rattle.telling_books.proofs.tell_made.Goals as goal
 
 pub returns-in-Length : goal.returns-in-Length

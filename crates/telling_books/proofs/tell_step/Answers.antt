@@ -1,5 +1,4 @@
 -- `telling_books::tell_step` meets its contract: each arm writes the numbers of its case.
-use Rattle.std.proofs.Common.{rules}
 use Rattle.telling_books.proofs.tell_step.Goals as goal
 
 pub returns-in-Record : goal.returns-in-Record

@@ -1,5 +1,4 @@
 -- `telling_books::tell_whole` meets its contract: each arm writes the numbers of its case.
-use Rattle.std.proofs.Common.{rules}
 use Rattle.telling_books.proofs.tell_whole.Goals as goal
 
 pub returns-in-Book : goal.returns-in-Book

@@ -1,12 +1,7 @@
 -- `trimming::back` meets its contract, since what is left trims to what the word trims to.
 use Prim.Native.Nat.{◌≤◌}
-use mathlib.Core.Path.{◌≡◌, sym, ap, ◌∙◌}
-use native.Mathlib.Omega.{arith}
-use borrow.Author.Tests.{not-true, not-false}
-use Rattle.std.proofs.Common.{rules}
-use lib.Seq.{take-length}
+use mathlib.Core.Path.{◌≡◌}
 use lib.ListN.{length, take}
-use Rattle.trimming.proofs.Trim.{none_back, blank_back, kept_back}
 use Rattle.trimming.specs.Trim.{trim_end}
 use Rattle.trimming.proofs.back.Given as goal
 

@@ -1,10 +1,9 @@
 -- `trimming::front` meets its contract, since what is left trims to what the word trims to.
-use Prim.Native.Nat.{◌≤◌, ◌-◌}
-use mathlib.Core.Path.{◌≡◌, refl, sym, ap, ◌∙◌}
+use Prim.Native.Nat.{◌-◌}
+use mathlib.Core.Path.{refl, sym, ap, ◌∙◌}
 use native.Mathlib.Omega.{arith}
-use borrow.Author.Tests.{not-true, not-false}
 use Rattle.std.proofs.Common.{rules}
-use lib.ListN.{length, drop, drop_of_length-le}
+use lib.ListN.{drop_of_length-le}
 use Rattle.trimming.proofs.Trim.{blank_front, kept_front}
 use Rattle.trimming.specs.Trim.{trim_start}
 use Rattle.trimming.proofs.front.Goals as goal

@@ -1,5 +1,4 @@
 -- `trimming::trimmed` meets its contract, since its two ends enclose the trimmed word.
-use Rattle.std.proofs.Common.{rules}
 use Rattle.trimming.proofs.Trim.{inner}
 use Rattle.trimming.proofs.trimmed.Goals as goal
 

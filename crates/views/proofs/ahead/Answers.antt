@@ -1,5 +1,4 @@
 -- `views::ahead` meets its contract: a text has a number other than 0.
-use Rattle.std.proofs.Common.{rules}
 use Rattle.windows.proofs.Facts.{seen}
 use Rattle.views.proofs.ahead.Goals as goal
 

@@ -1,5 +1,4 @@
 -- `views::behind` meets its contract: a text has a number other than 0.
-use Rattle.std.proofs.Common.{rules}
 use Rattle.byte.specs.Text.{upper}
 use Rattle.windows.specs.Window.{texts}
 use Rattle.views.proofs.Views.{seen_back}

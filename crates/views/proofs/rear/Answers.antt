@@ -1,5 +1,4 @@
 -- `views::rear` meets its contract: the end of the word is its length.
-use Rattle.std.proofs.Common.{rules}
 use Rattle.byte.proofs.Case.{length_upper}
 use Rattle.views.proofs.rear.Goals as goal
 

@@ -1,6 +1,5 @@
 -- `views::text_ahead` meets its contract.
 use native.Mathlib.Omega.{arith}
-use Rattle.std.proofs.Common.{rules}
 use Rattle.windows.proofs.Facts.{text_past}
 use Rattle.views.proofs.text_ahead.Goals as goal
 

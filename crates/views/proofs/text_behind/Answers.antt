@@ -1,5 +1,4 @@
 -- `views::text_behind` meets its contract: a place below 0 is no match.
-use Rattle.std.proofs.Common.{rules}
 use borrow.Author.Tests.{le-leb, lt-leb}
 use Rattle.views.proofs.text_behind.Goals as goal
 

@@ -1,12 +1,10 @@
 -- `walk::walk` meets its contract. The invariant, `Going`, says that the bytes written and those that the definition has
 -- still to come from here on are the code; the measure is what is left of the word.
-use Prim.Native.Nat.{ℕ, ◌-◌, ◌<◌, ◌≤◌}
+use Prim.Native.Nat.{ℕ, ◌-◌, ◌≤◌}
 use mathlib.Core.Path.{◌≡◌, refl, sym, ◌∙◌, ap, ap₂, subst}
-use mathlib.Core.Bool.{Bool, true, false, ◌&&◌}
+use mathlib.Core.Bool.{Bool, true, false}
 use mathlib.Core.List.{List}
 use native.Mathlib.Omega.{arith}
-use Rattle.std.proofs.Common.{rules}
-use lib.Dec.{leb}
 use lib.ListN.{length}
 use Rattle.byte.specs.Text.{upper}
 use Rattle.rules.specs.Cond.{Mode, mode}
@@ -22,7 +20,7 @@ use Rattle.outcome.specs.declared.Visit.{Visit}
 use Rattle.visiting.specs.declared.Visited.{Visited}
 use Rattle.walk.specs.Word.{rule_of, limited_of}
 use Rattle.walk.proofs.Told.{edition_if, told, is_asked}
-use Rattle.walk.proofs.Turn.{Written, Going, going, room_p, room_a, turned, at_end, at_limit}
+use Rattle.walk.proofs.Turn.{Written, going, room_p, room_a, turned, at_end, at_limit}
 use Rattle.walk.proofs.walk.Goals as goal
 
 abbrev Room : Edition → ℕ → List ℕ → List ℕ → List ℕ → Type 0

@@ -1,14 +1,9 @@
 -- `windows::text_at` meets its contract. The loop's invariant: the texts from `j` on, so many being passed, give the answer.
 use Prim.Native.Nat.{◌+◌, ◌≤◌, ◌-◌}
-use mathlib.Core.Path.{sym, ◌∙◌, ap}
-use native.Mathlib.Nat.{le_refl}
-use native.Mathlib.Omega.{arith}
-use Rattle.std.proofs.Common.{rules}
-use lib.ListN.{length, drop, length-drop}
-use lib.Seq.{drop-drop}
+use lib.ListN.{length, drop}
 use Rattle.byte.specs.Text.{upper}
 use Rattle.windows.specs.Window.{text_at, texts}
-use Rattle.windows.proofs.Facts.{Left, left_end, left_hit, left_miss, texts_cut, none_wide, text_size_lem}
+use Rattle.windows.proofs.Facts.{Left}
 use Rattle.windows.proofs.text_at.Given as goal
 
 abbrev pub invariant-loop-j : goal.invariant-loop-j

@@ -1,12 +1,8 @@
 -- `windows::window_is` meets its contract. The loop's invariant: each byte passed is the text's.
 use Prim.Native.Nat.{ℕ, ◌+◌, ◌≤◌, ◌<◌, ◌-◌}
-use mathlib.Core.Path.{◌≡◌, sym, ◌∙◌}
-use native.Mathlib.Omega.{arith}
-use borrow.Author.Count.{below_more}
-use Rattle.std.proofs.Common.{rules}
+use mathlib.Core.Path.{◌≡◌}
 use lib.ListN.{get_or}
 use Rattle.byte.specs.Text.{up}
-use Rattle.windows.proofs.Facts.{window_same, window_differs, window_past, window_other}
 use Rattle.windows.proofs.window_is.Given as goal
 
 abbrev pub invariant-loop-i : goal.invariant-loop-i

@@ -1,9 +1,8 @@
 -- `word::is_slavo_germanic` meets its contract. The invariant: what was found, with what the scan from `i` on finds, is what
 -- the scan of the whole word finds.
 use Prim.Native.Nat.{◌-◌}
-use Rattle.std.proofs.Common.{rules}
 use lib.ListN.{length}
-use Rattle.word.proofs.Mark.{Found, scan_start, scan_turn, scan_end}
+use Rattle.word.proofs.Mark.{Found}
 use Rattle.word.proofs.is_slavo_germanic.Given as goal
 
 abbrev pub invariant-loop-i : goal.invariant-loop-i

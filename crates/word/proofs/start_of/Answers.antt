@@ -1,5 +1,5 @@
 -- `word::start_of` meets its contract: its test is the one of the definition.
-use mathlib.Core.Path.{refl, ap, ◌∙◌}
+use mathlib.Core.Path.{ap, ◌∙◌}
 use mathlib.Core.Bool.{Bool, cond}
 use Rattle.word.specs.Start.{start_of}
 use Rattle.word.proofs.start_of.Goals as goal

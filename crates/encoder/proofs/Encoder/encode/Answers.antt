@@ -4,10 +4,7 @@ use mathlib.Core.Path.{◌≡◌, sym, ap, ◌∙◌}
 use mathlib.Core.List.{List}
 use mathlib.Core.Bool.{true}
 use native.Mathlib.Omega.{arith}
-use Rattle.std.proofs.Common.{rules}
-use borrow.Author.Tests.{not-true, not-false}
 use lib.ListN.{length}
-use Rattle.terms.specs.declared.Edition.{Edition}
 use Rattle.terms.specs.declared.Limit.{Limit}
 use Rattle.trimming.specs.Trim.{trimmed}
 use Rattle.ascii.specs.High.{is_ascii}

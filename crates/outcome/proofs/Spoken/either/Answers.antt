@@ -1,5 +1,4 @@
 -- `outcome::Spoken::either` meets its contract.
-use Rattle.std.proofs.Common.{rules}
 use Rattle.outcome.proofs.Spoken.either.Goals as goal
 
 pub returns-then-test : goal.returns-then-test

@@ -22,7 +22,7 @@ use Rattle.rules.specs.Table.{rows, cases_in, visit, spoken_at}
 use Rattle.terms.specs.declared.Edition.{Edition}
 use Rattle.outcome.specs.declared.Visit.{Visit}
 use Rattle.basics.proofs.Every.{every}
-use Rattle.rules.proofs.Each.{letter_passes}
+use Rattle.rules.proofs.Each.{row_passes}
 use Rattle.rules.proofs.Told.{spoken_visit}
 use Rattle.walk.specs.Walk.{joined, to_primary, to_alternate}
 use Rattle.walk.specs.Word.{rule_of}
@@ -63,7 +63,7 @@ sounds c = sounding (bytes c.primary) && sounding (bytes c.alternate)
 
 rows_sound : (b : ℕ) → every sounds (cases_in rows b) ≡ true
 unfolding rows swallows cases_c cases_d cases_g cases_h cases_j cases_l cases_m cases_p cases_r cases_s cases_t cases_w cases_x cases_z cases_vowel cases_rest
-rows_sound b = letter_passes (every sounds) rows b refl
+rows_sound b = row_passes (every sounds) rows b refl
 
 module _ (ed : Edition) (t : List ℕ) (p : ℕ) where
   abbrev spoken : Case

@@ -28,7 +28,7 @@ use Rattle.rules.specs.CasesS.{cases_s}
 use Rattle.outcome.specs.declared.Spoken.{Spoken}
 use Rattle.basics.proofs.Tests.{both}
 use Rattle.basics.proofs.Every.{every}
-use Rattle.rules.proofs.Each.{letter_passes}
+use Rattle.rules.proofs.Each.{row_passes}
 
 abbrev pub other : Case
 other = case always "" "" 0
@@ -136,7 +136,7 @@ module _ (u : List ℕ) (p : ℕ) (m : Mode) where
 -- each letter's last case asks nothing
 rows_close : (b : ℕ) → closes (cases_in rows b) ≡ true
 unfolding rows swallows cases_c cases_d cases_g cases_h cases_j cases_l cases_m cases_p cases_r cases_s cases_t cases_w cases_x cases_z cases_vowel cases_rest
-rows_close b = letter_passes closes rows b refl
+rows_close b = row_passes closes rows b refl
 
 pub says : (u : List ℕ) (p : ℕ) (m : Mode) → Says (cases_in rows (get_or u p 0)) u p m (spoken_at u p m)
 unfolding spoken_at
@@ -272,7 +272,7 @@ few cs = leb (length cs) 18 && every (λ (c : Case). few_texts (windows_of c.whe
 
 rows_few : (b : ℕ) → few (cases_in rows b) ≡ true
 unfolding rows swallows cases_c cases_d cases_g cases_h cases_j cases_l cases_m cases_p cases_r cases_s cases_t cases_w cases_x cases_z cases_vowel cases_rest
-rows_few b = letter_passes few rows b refl
+rows_few b = row_passes few rows b refl
 
 pub every_at : (f : Case → Bool) (cs : List Case) (i : ℕ) → f other ≡ true → every f cs ≡ true → f (get_or cs i other) ≡ true
 every_at f [] i o e = o

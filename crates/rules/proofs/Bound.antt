@@ -24,7 +24,7 @@ use Rattle.outcome.specs.declared.Add.{Add}
 use Rattle.outcome.specs.declared.Add.TheVariants.{Nothing, One, Two}
 use Rattle.outcome.specs.declared.Visit.{Visit}
 use Rattle.basics.proofs.Every.{every}
-use Rattle.rules.proofs.Each.{letter_passes}
+use Rattle.rules.proofs.Each.{row_passes}
 
 -- a text of at most two bytes is added whole
 pub added_whole : (s : List ℕ) → length s ≤ 2 → bytes_of (added s) ≡ s
@@ -40,7 +40,7 @@ short c = leb (length (bytes c.primary)) 2 && (leb (length (bytes c.alternate)) 
 -- at each case of every byte
 pub texts_short : (b : ℕ) → every short (cases_in rows b) ≡ true
 unfolding rows swallows cases_c cases_d cases_g cases_h cases_j cases_l cases_m cases_p cases_r cases_s cases_t cases_w cases_x cases_z cases_vowel cases_rest
-texts_short b = letter_passes (every short) rows b refl
+texts_short b = row_passes (every short) rows b refl
 
 -- ---- what that says of a visit
 add_short : (a : Add) → length (bytes_of a) ≤ 2

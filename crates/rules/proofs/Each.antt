@@ -12,18 +12,18 @@ use Rattle.rules.specs.Plain.{cases_rest}
 use Rattle.rules.specs.Table.{Row, cases_in}
 
 -- the test of a list of cases passes at each letter, and at the rest
-abbrev pub every_letter : (List Case → Bool) → List Row → Bool
-every_letter f [] = f cases_rest
-every_letter f (r ∷ rs) = f r.cases && every_letter f rs
+abbrev pub every_row : (List Case → Bool) → List Row → Bool
+every_row f [] = f cases_rest
+every_row f (r ∷ rs) = f r.cases && every_row f rs
 
 in_letter : (f : List Case → Bool) (b : Bool) (x y : List Case) → f x ≡ true → f y ≡ true → f (cond b x y) ≡ true
 in_letter f true x y i j = i
 in_letter f false x y i j = j
 
 -- then it passes at the cases of each byte
-pub letter_passes : (f : List Case → Bool) (rs : List Row) (b : ℕ) → every_letter f rs ≡ true → f (cases_in rs b) ≡ true
+pub row_passes : (f : List Case → Bool) (rs : List Row) (b : ℕ) → every_row f rs ≡ true → f (cases_in rs b) ≡ true
 unfolding cases_in
-letter_passes f [] b e = e
-letter_passes f (r ∷ rs) b e =
-    let h = both (f r.cases) (every_letter f rs) e in
-    in_letter f (among (bytes r.keys) b) r.cases (cases_in rs b) h.0 (letter_passes f rs b h.1)
+row_passes f [] b e = e
+row_passes f (r ∷ rs) b e =
+    let h = both (f r.cases) (every_row f rs) e in
+    in_letter f (among (bytes r.keys) b) r.cases (cases_in rs b) h.0 (row_passes f rs b h.1)

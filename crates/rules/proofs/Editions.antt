@@ -22,7 +22,7 @@ use Rattle.rules.specs.CasesS.{cases_s}
 use Rattle.rules.specs.Dutch.{dutch}
 use Rattle.rules.specs.Table.{Row, rows, cases_in, visit}
 use Rattle.outcome.specs.declared.Visit.{Visit}
-use Rattle.rules.proofs.Each.{every_letter}
+use Rattle.rules.proofs.Each.{every_row}
 use Rattle.rules.proofs.Mode.{asks, asks_cases, Same, same_holds, same_first}
 
 -- a text of three bytes is no window of four
@@ -93,10 +93,10 @@ module _ (w : List ℕ) (no : dutch w ≡ false) (p : ℕ) (b : Bool) where
       by true i = a.0
       by false i = i
 
-  tested : (rs : List Row) → every_letter (asks_cases true false) rs ≡ true → AllSame rs
+  tested : (rs : List Row) → every_row (asks_cases true false) rs ≡ true → AllSame rs
   tested [] e = none_ask cases_rest e
   tested (r ∷ rs) e =
-      let h = both (asks_cases true false r.cases) (every_letter (asks_cases true false) rs) e in (none_ask r.cases h.0, tested rs h.1)
+      let h = both (asks_cases true false r.cases) (every_row (asks_cases true false) rs) e in (none_ask r.cases h.0, tested rs h.1)
 
   -- C is the third
   all_same : AllSame rows

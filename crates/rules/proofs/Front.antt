@@ -30,7 +30,7 @@ use Rattle.rules.specs.CasesMZ.{cases_m, cases_p, cases_r, cases_t, cases_w, cas
 use Rattle.rules.specs.CasesS.{cases_s}
 use Rattle.rules.specs.Table.{rows, cases_in, visit}
 use Rattle.rules.specs.Kept.{bytes_of, AtFront}
-use Rattle.rules.proofs.Each.{letter_passes}
+use Rattle.rules.proofs.Each.{row_passes}
 
 -- ---- what a condition surely answers at place 0
 abbrev before : Spot → Bool
@@ -385,7 +385,7 @@ module _ (u : List ℕ) (m : Mode) where
 -- the table passes the test
 table_opens : (b : ℕ) → opens [] (cases_in rows b) ≡ true
 unfolding rows swallows cases_c cases_d cases_g cases_h cases_j cases_l cases_m cases_p cases_r cases_s cases_t cases_w cases_x cases_z cases_vowel cases_rest same
-table_opens b = letter_passes (opens []) rows b refl
+table_opens b = row_passes (opens []) rows b refl
 
 pub visit_front : (u : List ℕ) (m : Mode) → AtFront (length u) (visit u 0 m)
 unfolding visit

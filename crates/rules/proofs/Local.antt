@@ -28,7 +28,7 @@ use Rattle.rules.specs.CasesS.{cases_s}
 use Rattle.rules.specs.Table.{rows, cases_in, visit}
 use Rattle.outcome.specs.declared.Visit.{Visit}
 use Rattle.basics.proofs.Every.{every}
-use Rattle.rules.proofs.Each.{letter_passes}
+use Rattle.rules.proofs.Each.{row_passes}
 
 -- ---- the test
 -- `n` bytes at the spot lie where the two words agree
@@ -211,7 +211,7 @@ module _ (u v : List ℕ) (p : ℕ) (a : Agree u v p) (h : 0 < p) (m : Mode) whe
 -- the table passes the test
 table_near : (b : ℕ) → every near_case (cases_in rows b) ≡ true
 unfolding rows swallows cases_c cases_d cases_g cases_h cases_j cases_l cases_m cases_p cases_r cases_s cases_t cases_w cases_x cases_z cases_vowel cases_rest
-table_near b = letter_passes (every near_case) rows b refl
+table_near b = row_passes (every near_case) rows b refl
 
 -- L8, for one visit
 pub visit_same : (u v : List ℕ) (p : ℕ) → Agree u v p → 0 < p → (m : Mode) → visit u p m ≡ visit v p m

@@ -54,7 +54,7 @@ lower {s} h (more {y = y} g r) = let k : s ≤ y.station = omega arith in more k
 rises : (c : Choice) (format : ℕ) {floor : ℕ} (es : List Entry) → book.GoodRecords format floor es → Rises floor (coded_all c (standing es))
 unfolding coded_all
 rises c format [] book.none = none
-rises c format {floor} (e ∷ es) (book.more x xs) = go (is_live e) (rises c format es xs)
+rises c format {floor = floor} (e ∷ es) (book.more x xs) = go (is_live e) (rises c format {floor = above e} es xs)
   where
     go : (t : Bool) → Rises (above e) (coded_all c (standing es)) → Rises floor (coded_all c (bodies (cond t (e ∷ live es) (live es))))
     go true ih = more x.body.rises (subst (λ (k : ℕ). Rises k (coded_all c (standing es))) (add-one e.body.station) ih)

@@ -11,6 +11,7 @@ use terms::{EDITIONS, Limit, edition_of};
 const LAST: u64 = EDITIONS as u64;
 
 // Encodes under the edition of this number. One that is not known is refused before all else.
+#[tactic(auto, using(crate::proofs::Editions::unknown))]
 pub fn encode_in(
     edition: u64,
     limit: Limit,

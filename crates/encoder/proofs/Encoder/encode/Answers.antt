@@ -43,7 +43,7 @@ returns-then-primary-need c =
     let ascii : is_ascii w ≡ true = sym c.is_ascii.ensures ∙ c.if-not-is_ascii.false in
     let i = inner w f.result b.result f.ensures.start b.ensures.within b.ensures.end in
     let n = need_is w l f.result b.result c.need_of-need.result i c.need_of-need.ensures in
-    primary_short a.self.edition l w a.primary.now a.alternate.now fits ascii c.need_of-need.result n c.if-primary-need.true
+    primary_short a.self.edition l w a.primary.now a.alternate.now fits ascii c.need_of-need.result n (omega arith)
 
 pub returns-then-alternate-need : goal.returns-then-alternate-need
 returns-then-alternate-need c =
@@ -56,7 +56,7 @@ returns-then-alternate-need c =
     let ascii : is_ascii w ≡ true = sym c.is_ascii.ensures ∙ c.if-not-is_ascii.false in
     let i = inner w f.result b.result f.ensures.start b.ensures.within b.ensures.end in
     let n = need_is w l f.result b.result c.need_of-need.result i c.need_of-need.ensures in
-    alternate_short a.self.edition l w a.primary.now a.alternate.now fits ascii c.need_of-need.result n c.if-primary-need.false c.if-alternate-need.true
+    alternate_short a.self.edition l w a.primary.now a.alternate.now fits ascii c.need_of-need.result n (omega arith) (omega arith)
 
 pub walk-tally-requires : goal.walk-tally-requires
 walk-tally-requires c =
@@ -69,7 +69,7 @@ walk-tally-requires c =
     let ascii : is_ascii w ≡ true = sym c.is_ascii.ensures ∙ c.if-not-is_ascii.false in
     let i = inner w f.result b.result f.ensures.start b.ensures.within b.ensures.end in
     let n = need_is w l f.result b.result c.need_of-need.result i c.need_of-need.ensures in
-    has_room a.self.edition l w a.primary.now a.alternate.now fits ascii c.need_of-need.result n c.if-primary-need.false c.if-alternate-need.false
+    has_room a.self.edition l w a.primary.now a.alternate.now fits ascii c.need_of-need.result n (omega arith) (omega arith)
     c.cap_of-cap.result _ (cap_is w l f.result b.result c.cap_of-cap.result i c.cap_of-cap.ensures) i.same
 
 pub returns : goal.returns
@@ -84,6 +84,6 @@ returns c =
     let ascii : is_ascii w ≡ true = sym c.is_ascii.ensures ∙ c.if-not-is_ascii.false in
     let i = inner w f.result b.result f.ensures.start b.ensures.within b.ensures.end in
     let n = need_is w l f.result b.result c.need_of-need.result i c.need_of-need.ensures in
-    coded a.self.edition l w a.primary.now a.alternate.now fits ascii c.need_of-need.result n c.if-primary-need.false c.if-alternate-need.false
+    coded a.self.edition l w a.primary.now a.alternate.now fits ascii c.need_of-need.result n (omega arith) (omega arith)
     c.cap_of-cap.result _ (cap_is w l f.result b.result c.cap_of-cap.result i c.cap_of-cap.ensures) i.same
     t.result _ _ t.ensures.tally t.ensures.primary t.ensures.alternate

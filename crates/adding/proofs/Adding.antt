@@ -3,7 +3,7 @@ use Prim.Native.Nat.{ℕ}
 use mathlib.Core.Path.{◌≡◌, ap₂, ◌∙◌}
 use mathlib.Core.List.{List}
 use Rattle.terms.specs.declared.Edition.{Edition}
-use Rattle.terms.specs.declared.Limit.{Limit}
+use Rattle.terms.specs.Limits.{Limit}
 use Rattle.chosen.specs.declared.Choice.TheVariants.{Primary, Alternate}
 use Rattle.encoder.specs.declared.Encoder.{Encoder}
 use Rattle.answers.specs.declared.Answer.{Answer}

@@ -22,7 +22,7 @@ use Rattle.book.specs.Room.{read_in}
 use Rattle.appending.specs.Ended.{end_of, end_fault, floor_at, placed_at, behind, Appended}
 use Rattle.keying.proofs.Keyed.{was_laid, sound}
 use Rattle.terms.specs.declared.Edition.{Edition}
-use Rattle.terms.specs.declared.Limit.{Limit}
+use Rattle.terms.specs.Limits.{Limit}
 use Rattle.chosen.specs.declared.Choice.TheVariants.{Primary, Alternate}
 use Rattle.encoder.specs.declared.Encoder.{Encoder}
 use Rattle.answers.specs.declared.Answer.{Answer}

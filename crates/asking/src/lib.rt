@@ -12,9 +12,9 @@ pub fn limit_of(limited: bool, limit: u64) -> Limit
     ensures { result ≡ limit_of limited limit }
 {
     if limited {
-        Limit::At(limit as usize)
+        Some(limit as usize)
     } else {
-        Limit::Whole
+        None
     }
 }
 

@@ -3,7 +3,7 @@ use Prim.Native.Nat.{ℕ}
 use mathlib.Core.Path.{◌≡◌, ap, ◌∙◌}
 use mathlib.Core.List.{List}
 use lib.ListN.{length}
-use Rattle.terms.specs.declared.Limit.{Limit}
+use Rattle.terms.specs.Limits.{Limit}
 use Rattle.header.specs.Head.{header_bytes, cut_of}
 use Rattle.putting.specs.declared.Made.{Made}
 use Rattle.starting.specs.New.{cut_fault, new_header}

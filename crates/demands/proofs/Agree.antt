@@ -15,8 +15,8 @@ use Rattle.walk.specs.Walk.{places, to_primary, to_alternate, whole, limited}
 use Rattle.word.specs.Mark.{slavo_germanic}
 use Rattle.word.specs.Start.{start_of}
 use Rattle.walk.specs.Word.{visits_of, rule_of}
-use Rattle.terms.specs.declared.Limit.{Limit}
-use Rattle.terms.specs.declared.Limit.TheVariants.{Whole, At}
+use Rattle.terms.specs.Limits.{Limit}
+use Rattle.std.specs.Prelude.{Some, None}
 use Rattle.chosen.specs.declared.Choice.{Choice}
 use Rattle.chosen.specs.declared.Choice.TheVariants.{Primary, Alternate}
 use Rattle.answers.specs.declared.Answer.TheVariants.{Coded, TooLong, NotAscii, PrimaryShort, AlternateShort}
@@ -37,8 +37,8 @@ visited t v = places v (start_of t) 0 (length t - start_of t)
 
 pub walk_agrees : (l : Limit) (t : List ℕ) → dutch t ≡ false → walk_of E1 l t ≡ walk_of E2 l t
 unfolding visits_of
-walk_agrees Whole t h = ap (λ (v : ℕ → Visit). whole (to_primary v) (to_alternate v) (visited t v)) (rule_agrees t h)
-walk_agrees (At n) t h = ap (λ (v : ℕ → Visit). limited (to_primary v) (to_alternate v) n n (visited t v)) (rule_agrees t h)
+walk_agrees None t h = ap (λ (v : ℕ → Visit). whole (to_primary v) (to_alternate v) (visited t v)) (rule_agrees t h)
+walk_agrees (Some n) t h = ap (λ (v : ℕ → Visit). limited (to_primary v) (to_alternate v) n n (visited t v)) (rule_agrees t h)
 
 pub code_agrees : (l : Limit) (c : Choice) (w : List ℕ) → dutch (trimmed w) ≡ false → code_of E1 l c w ≡ code_of E2 l c w
 unfolding primary_of alternate_of

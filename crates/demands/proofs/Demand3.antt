@@ -17,7 +17,7 @@ use Rattle.terms.specs.Limits.{word_limit}
 use Rattle.encoder.specs.Encode.{primary_of, alternate_of, visits_under}
 use Rattle.trimming.proofs.Trim.{keep_any}
 use Rattle.encoder.proofs.Codes.{cut_at}
-use Rattle.terms.specs.declared.Limit.TheVariants.{At}
+use Rattle.std.specs.Prelude.{Some}
 use Rattle.demands.specs.Demand3.{Unlimited, Limited, Reaches}
 use Rattle.walk_laws.proofs.Bound as bound
 
@@ -42,8 +42,8 @@ code_limited ed n t =
     }
 
 -- there is one such number of visits
-pub code_limited_one : (ed : Edition) (n k : ℕ) (t : List ℕ) → Fewest (to_primary (rule_of ed t)) (to_alternate (rule_of ed t)) (visits_of ed t) n k → k ≡ visits_under ed (At n) t
-code_limited_one ed n k t f = fewest_one (to_primary (rule_of ed t)) (to_alternate (rule_of ed t)) (visits_of ed t) n k (visits_under ed (At n) t) f (code_limited ed n t).visits
+pub code_limited_one : (ed : Edition) (n k : ℕ) (t : List ℕ) → Fewest (to_primary (rule_of ed t)) (to_alternate (rule_of ed t)) (visits_of ed t) n k → k ≡ visits_under ed (Some n) t
+code_limited_one ed n k t f = fewest_one (to_primary (rule_of ed t)) (to_alternate (rule_of ed t)) (visits_of ed t) n k (visits_under ed (Some n) t) f (code_limited ed n t).visits
 
 -- K, X, Z, X, Z, .. is ASCII, and trimmed
 xz_trimmed : (n : ℕ) → trim_end (xz n) ≡ xz n

@@ -5,8 +5,8 @@ use mathlib.Core.List.{List}
 use native.Mathlib.Omega.{arith}
 use lib.ListN.{length}
 use Rattle.terms.specs.declared.Edition.{Edition}
-use Rattle.terms.specs.declared.Limit.{Limit}
-use Rattle.terms.specs.declared.Limit.TheVariants.{Whole, At}
+use Rattle.terms.specs.Limits.{Limit}
+use Rattle.std.specs.Prelude.{Some, None}
 use Rattle.answers.specs.declared.Answer.{Answer}
 use Rattle.trimming.specs.Trim.{trimmed}
 use Rattle.terms.specs.Limits.{word_limit}
@@ -15,8 +15,8 @@ use Rattle.needs.specs.Needs.{need_of}
 use Rattle.trimming.proofs.Trim.{trimmed_length}
 
 pub need_at_most : (l : Limit) (t : ℕ) → need_of l t ≤ 2 * t - 1
-need_at_most Whole t = omega arith
-need_at_most (At n) t = omega arith
+need_at_most None t = omega arith
+need_at_most (Some n) t = omega arith
 
 module _ {ed : Edition} {l : Limit} {w p a p' a' : List ℕ} {r : Answer} (e : Encoded ed l w p a r p' a') (room : 2 * word_limit - 1 ≤ length p) (room' : 2 * word_limit - 1 ≤ length a) where
   pub never_three : number_of r ≡ 3 → ⊥

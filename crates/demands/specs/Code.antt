@@ -1,7 +1,7 @@
 -- The chosen code of a word.
 use Rattle.std.specs.Prelude.{ℕ, List}
 use Rattle.terms.specs.declared.Edition.{Edition}
-use Rattle.terms.specs.declared.Limit.{Limit}
+use Rattle.terms.specs.Limits.{Limit}
 use Rattle.chosen.specs.declared.Choice.{Choice}
 use Rattle.chosen.specs.declared.Choice.TheVariants.{Primary, Alternate}
 use Rattle.trimming.specs.Trim.{trimmed}

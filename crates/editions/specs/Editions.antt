@@ -2,7 +2,7 @@
 -- the answer and both buffers are those of `encode` under that edition (`edition_encoded` in proofs/Editions.antt).
 use Rattle.std.specs.Prelude.{ℕ, ◌≡◌, cond, List, length}
 use Rattle.terms.specs.Refusals.{not_known}
-use Rattle.terms.specs.declared.Limit.{Limit}
+use Rattle.terms.specs.Limits.{Limit}
 use Rattle.answers.specs.declared.Reply.{Reply}
 use Rattle.answers.specs.declared.Reply.TheVariants.{Answered, UnknownEdition}
 use Rattle.trimming.specs.Trim.{trimmed}

@@ -10,7 +10,7 @@ use Rattle.tally.specs.declared.Tally.{Tally}
 use Rattle.walk.specs.Walk.{tally_of, filled, Coded}
 use Rattle.walk.specs.Word.{limited_of}
 use Rattle.terms.specs.declared.Edition.{Edition}
-use Rattle.terms.specs.declared.Limit.{Limit}
+use Rattle.terms.specs.Limits.{Limit}
 use Rattle.answers.specs.declared.Answer.{Answer}
 use Rattle.answers.specs.declared.Answer.TheVariants.{TooLong, NotAscii, PrimaryShort, AlternateShort}
 use Rattle.answers.specs.declared.Answer.TheVariants

@@ -14,8 +14,8 @@ use Rattle.word.specs.Start.{start_of}
 use Rattle.walk_laws.proofs.Limit.{Cut, cut, no_limit}
 use Rattle.walk_laws.proofs.Bound.{primary_bound, alternate_bound}
 use Rattle.terms.specs.declared.Edition.{Edition}
-use Rattle.terms.specs.declared.Limit.{Limit}
-use Rattle.terms.specs.declared.Limit.TheVariants.{Whole, At}
+use Rattle.terms.specs.Limits.{Limit}
+use Rattle.std.specs.Prelude.{Some, None}
 use Rattle.needs.specs.Needs.{need_of, cap_of}
 use Rattle.encoder.specs.Encode.{primary_of, alternate_of, visits_under}
 
@@ -33,23 +33,23 @@ module _ (ed : Edition) (w : List ℕ) where
 
   pub primary_capped : (l : Limit) → (limited_of ed (cap_of l (length w)) w).primary ≡ primary_of ed l w
   unfolding primary_of
-  primary_capped Whole = uncut (length w) _ _ (cut_at (2 * length w)).primary (primary_bound ed w)
-  primary_capped (At n) = refl
+  primary_capped None = uncut (length w) _ _ (cut_at (2 * length w)).primary (primary_bound ed w)
+  primary_capped (Some n) = refl
 
   pub alternate_capped : (l : Limit) → (limited_of ed (cap_of l (length w)) w).alternate ≡ alternate_of ed l w
   unfolding alternate_of
-  alternate_capped Whole = uncut (length w) _ _ (cut_at (2 * length w)).alternate (alternate_bound ed w)
-  alternate_capped (At n) = refl
+  alternate_capped None = uncut (length w) _ _ (cut_at (2 * length w)).alternate (alternate_bound ed w)
+  alternate_capped (Some n) = refl
 
   pub primary_fits : (l : Limit) → length (primary_of ed l w) ≤ need_of l (length w)
   unfolding primary_of
-  primary_fits Whole = primary_bound ed w
-  primary_fits (At n) = fits n (length w) _ _ (cut_at n).primary (primary_bound ed w)
+  primary_fits None = primary_bound ed w
+  primary_fits (Some n) = fits n (length w) _ _ (cut_at n).primary (primary_bound ed w)
 
   pub alternate_fits : (l : Limit) → length (alternate_of ed l w) ≤ need_of l (length w)
   unfolding alternate_of
-  alternate_fits Whole = alternate_bound ed w
-  alternate_fits (At n) = fits n (length w) _ _ (cut_at n).alternate (alternate_bound ed w)
+  alternate_fits None = alternate_bound ed w
+  alternate_fits (Some n) = fits n (length w) _ _ (cut_at n).alternate (alternate_bound ed w)
 
 -- an empty word has no visits
 no_visits : (ed : Edition) (w : List ℕ) → length w ≡ 0 → visits_of ed w ≡ []
@@ -57,8 +57,8 @@ unfolding visits_of
 no_visits ed w e = let z : length w - start_of w ≡ 0 = omega arith in rw z
 
 pub visits_capped : (ed : Edition) (w : List ℕ) (l : Limit) → (limited_of ed (cap_of l (length w)) w).visits ≡ visits_under ed l w
-visits_capped ed w (At n) = refl
-visits_capped ed w Whole = go (ltb 0 (length w)) refl
+visits_capped ed w (Some n) = refl
+visits_capped ed w None = go (ltb 0 (length w)) refl
   where
     go : (q : Bool) → ltb 0 (length w) ≡ q → (limited_of ed (2 * length w) w).visits ≡ length (visits_of ed w)
     go true t =

@@ -7,8 +7,8 @@ pub use Rattle.terms.specs.Limits.{word_limit}
 pub use Rattle.answers.specs.Answers.{number_of, place_of, primary_length, alternate_length, visit_count}
 use Rattle.walk.specs.Word.{whole_of, limited_of}
 use Rattle.terms.specs.declared.Edition.{Edition}
-use Rattle.terms.specs.declared.Limit.{Limit}
-use Rattle.terms.specs.declared.Limit.TheVariants.{Whole, At}
+use Rattle.terms.specs.Limits.{Limit}
+use Rattle.std.specs.Prelude.{Some, None}
 use Rattle.encoder.specs.declared.Encoder.{Encoder}
 use Rattle.answers.specs.declared.Answer.{Answer}
 use Rattle.answers.specs.declared.Answer.TheVariants.{Coded, TooLong, NotAscii, PrimaryShort, AlternateShort}
@@ -27,8 +27,8 @@ encoder_of ed l = record { limit = l; edition = ed }
 
 -- the walk of a trimmed word under an edition, with no limit or under one
 abbrev pub walk_of : Edition → Limit → List ℕ → walk.Coded
-walk_of ed Whole t = whole_of ed t
-walk_of ed (At n) t = limited_of ed n t
+walk_of ed None t = whole_of ed t
+walk_of ed (Some n) t = limited_of ed n t
 
 -- its codes and its visits
 unfoldable pub primary_of : Edition → Limit → List ℕ → List ℕ

@@ -1,7 +1,7 @@
 // The encoder: refuses what it must, trims the word, and lends the inner part and both buffers to the walk.
 #![tactic(auto)]
 
-ghost use Rattle.std.specs.Prelude.{◌≡◌};
+ghost use Rattle.std.specs.Prelude.{◌≡◌, Some};
 ghost use Rattle.encoder.specs.Encode.{encoder_of, default_limit, Encoded};
 
 use answers::Answer;
@@ -30,9 +30,9 @@ impl Encoder {
     }
 
     pub fn default() -> Self
-        ensures { result ≡ encoder_of Edition.E1 (Limit.At default_limit) }
+        ensures { result ≡ encoder_of Edition.E1 (Some default_limit) }
     {
-        Self::in_edition(Edition::E1, Limit::At(Encoder::DEFAULT_LIMIT))
+        Self::in_edition(Edition::E1, Some(Encoder::DEFAULT_LIMIT))
     }
 
     // The checks run in document 01's order, on the word as it is lent; only then is it trimmed and walked.

@@ -4,7 +4,7 @@
 use Rattle.std.specs.Prelude.{ℕ, ◌≡◌, List, cond, ltb, length}
 use Rattle.basics.specs.Same.{same}
 use Rattle.terms.specs.declared.Edition.TheVariants.{E1}
-use Rattle.terms.specs.declared.Limit.{Limit}
+use Rattle.terms.specs.Limits.{Limit}
 use Rattle.ascii.specs.High.{first_high}
 use Rattle.terms.specs.Limits.{word_limit}
 use Rattle.demands.specs.Code.{code_of}

@@ -4,7 +4,7 @@ use Prim.Native.Nat.{ℕ}
 use mathlib.Core.Path.{◌≡◌, ap, ◌∙◌}
 use mathlib.Core.List.{List}
 use lib.ListN.{length}
-use Rattle.terms.specs.declared.Limit.{Limit}
+use Rattle.terms.specs.Limits.{Limit}
 use Rattle.listing.specs.declared.Told.{Told}
 use Rattle.listing.specs.Listing.{told_of, room_of, Explained}
 use Rattle.explain.specs.Face.{told_numbers}

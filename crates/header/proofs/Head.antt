@@ -9,7 +9,7 @@ use Rattle.fields.proofs.Law.{Law, Fines, both, renamed}
 use Rattle.fields.proofs.Field.{number_law}
 use Rattle.header.specs.declared.Header.{Header}
 use Rattle.header.specs.Head.{header_bytes, editions, header_of, read_header_by, formats, unknown, known, limit_of}
-use Rattle.terms.specs.declared.Limit.TheVariants.{At}
+use Rattle.std.specs.Prelude.{Some}
 
 -- ---- a header, under any judge of its format
 abbrev header_parts : Header → Both ℕ (Both ℕ ℕ)
@@ -39,6 +39,6 @@ known_above least most v h k = rw (le-leb least v h, lt-leb v most k)
 pub known_good : (least most v : ℕ) → least ≤ v → v ≤ most → known least most v ≡ 0
 known_good least most v h k = rw (le-leb least v h, le-leb v most k)
 
-pub limit_at : (cut : ℕ) → (cut ≡ 0 → ⊥) → At (cut - 1) ≡ limit_of cut
+pub limit_at : (cut : ℕ) → (cut ≡ 0 → ⊥) → Some (cut - 1) ≡ limit_of cut
 limit_at zero z = absurd (z refl)
-limit_at (suc n) z = ap At (omega arith)
+limit_at (suc n) z = ap Some (omega arith)

@@ -6,8 +6,8 @@ use Rattle.fields.specs.Field.{number, read_number, any}
 use Rattle.terms.specs.Editions.{last_edition, last_format}
 use Rattle.header.specs.declared.Opened.{Opened}
 use Rattle.header.specs.declared.Header.{Header}
-use Rattle.terms.specs.declared.Limit.{Limit}
-use Rattle.terms.specs.declared.Limit.TheVariants.{Whole, At}
+use Rattle.terms.specs.Limits.{Limit}
+use Rattle.std.specs.Prelude.{Some, None}
 use Rattle.header.specs.declared.Opened.TheVariants as opened
 
 -- ---- writing
@@ -52,9 +52,9 @@ unknown format edition = first (formats 1 format) (editions edition)
 
 -- the cut: 0 for none, else the limit plus 1
 abbrev pub cut_of : Limit → ℕ
-cut_of Whole = 0
-cut_of (At n) = n + 1
+cut_of None = 0
+cut_of (Some n) = n + 1
 
 abbrev pub limit_of : ℕ → Limit
-limit_of zero = Whole
-limit_of (suc n) = At n
+limit_of zero = None
+limit_of (suc n) = Some n

@@ -112,7 +112,7 @@ pub fn limit_of(cut: u32) -> Limit
     ensures { result ≡ limit_of cut }
 {
     if cut == 0 {
-        return Limit::Whole;
+        return None;
     }
-    Limit::At((cut - 1) as usize)
+    Some((cut - 1) as usize)
 }

@@ -6,8 +6,8 @@ use mathlib.Core.Bool.{Bool, true, false, cond, ◌&&◌}
 use mathlib.Core.List.{List, [], ◌∷◌, ◌++◌}
 use lib.Dec.{eqb}
 use Rattle.terms.specs.declared.Edition.{Edition}
-use Rattle.terms.specs.declared.Limit.{Limit}
-use Rattle.terms.specs.declared.Limit.TheVariants.{Whole, At}
+use Rattle.terms.specs.Limits.{Limit}
+use Rattle.std.specs.Prelude.{Some, None}
 use Rattle.chosen.specs.declared.Choice.{Choice}
 use Rattle.chosen.specs.declared.Choice.TheVariants.{Primary, Alternate}
 use Rattle.trimming.specs.Trim.{trimmed}
@@ -29,11 +29,11 @@ use Rattle.join_laws.specs.Afresh.{RightUnder, AllRight, edition_in, Right, fres
 use Rattle.matching.proofs.Fresh as fresh
 
 -- demand 3: a code under a limit is the unlimited one, cut
-cut_code : (ed : Edition) (c : Choice) (l : Limit) (w : List ℕ) → code_of ed l c w ≡ clip l (code_of ed Whole c w)
-cut_code ed Primary Whole w = refl
-cut_code ed Primary (At n) w = (code_limited ed n (trimmed w)).primary
-cut_code ed Alternate Whole w = refl
-cut_code ed Alternate (At n) w = (code_limited ed n (trimmed w)).alternate
+cut_code : (ed : Edition) (c : Choice) (l : Limit) (w : List ℕ) → code_of ed l c w ≡ clip l (code_of ed None c w)
+cut_code ed Primary None w = refl
+cut_code ed Primary (Some n) w = (code_limited ed n (trimmed w)).primary
+cut_code ed Alternate None w = refl
+cut_code ed Alternate (Some n) w = (code_limited ed n (trimmed w)).alternate
 
 -- stations and names
 abbrev entries : List Record → List (fresh.Entry (List ℕ))
@@ -59,7 +59,7 @@ module _ (ed : Edition) (c : Choice) (l : Limit) where
 
 -- where their editions are the same, which the join asks
 pub join_afresh : (c : Choice) (x y : Book) → x.header.edition ≡ y.header.edition → Right x → Right y
-    → join_of c x y ≡ pairs Whole (freshly (edition_in x) (limits_of x y) c (standing x.records)) (freshly (edition_in x) (limits_of x y) c (standing y.records))
+    → join_of c x y ≡ pairs None (freshly (edition_in x) (limits_of x y) c (standing x.records)) (freshly (edition_in x) (limits_of x y) c (standing y.records))
 join_afresh c x y e p q =
     let ed : Edition = edition_in x in
     let lx : Limit = limit_of x.header.cut in
@@ -68,7 +68,7 @@ join_afresh c x y e p q =
     let s : AllRight ed ly (standing y.records) = subst (λ (n : ℕ). AllRight (edition_of n) ly (standing y.records)) (sym e) q in
     ap₂ (pairs m) (all_fresh ed c lx (standing x.records) p ∙ by_names ed c lx (standing x.records)) (all_fresh ed c ly (standing y.records) s ∙ by_names ed c ly (standing y.records))
     ∙ fresh.afresh (λ l w. code_of ed l c w) (cut_code ed c) lx ly (entries (standing x.records)) (entries (standing y.records))
-    ∙ sym (ap₂ (pairs Whole) (by_names ed c m (standing x.records)) (by_names ed c m (standing y.records)))
+    ∙ sym (ap₂ (pairs None) (by_names ed c m (standing x.records)) (by_names ed c m (standing y.records)))
 
 -- ---- the writer's codes are right: a new record's are, a new book has none, and one record more keeps a book right; that these are the
 -- books it leaves is `start_reads` and `add_reads` of crates/book_laws/proofs/Grows.antt

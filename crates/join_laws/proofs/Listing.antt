@@ -10,7 +10,7 @@ use native.Mathlib.Omega.{arith}
 use borrow.Author.Tests.{eqb-true, eqb-false}
 use Rattle.basics.specs.Same.{same}
 use Rattle.basics.proofs.Same.{same_true, same_refl}
-use Rattle.terms.specs.declared.Limit.{Limit}
+use Rattle.terms.specs.Limits.{Limit}
 use Rattle.chosen.specs.declared.Choice.{Choice}
 use Rattle.entry.specs.Entry.{Record, Entry, is_live}
 use Rattle.book.specs.Book.{Book, live}

@@ -2,7 +2,7 @@
 -- speaks of, `join_afresh` of proofs/Afresh.antt.
 use Rattle.std.specs.Prelude.{◌≡◌, List, [], ◌∷◌}
 use Rattle.terms.specs.declared.Edition.{Edition}
-use Rattle.terms.specs.declared.Limit.{Limit}
+use Rattle.terms.specs.Limits.{Limit}
 use Rattle.chosen.specs.declared.Choice.{Choice}
 use Rattle.chosen.specs.declared.Choice.TheVariants.{Primary, Alternate}
 use Rattle.terms.specs.Editions.{edition_of}

@@ -7,7 +7,7 @@ use borrow.Author.Tests.{lt-ltb, le-ltb}
 use lib.ListN.{length}
 use Rattle.terms.specs.declared.Edition.TheVariants.{E1}
 use Rattle.encoder.specs.declared.Encoder.{Encoder}
-use Rattle.terms.specs.declared.Limit.TheVariants.{At}
+use Rattle.std.specs.Prelude.{Some}
 use Rattle.answers.specs.declared.Answer.{Answer}
 use Rattle.answers.specs.declared.Answer.TheVariants.{Coded}
 use Rattle.trimming.specs.Trim.{trimmed}
@@ -23,22 +23,22 @@ use Rattle.line.specs.Line.{line_by, line_of}
 
 -- the two codes of a word under edition 1 and the default limit
 abbrev pub primary : List ℕ → List ℕ
-primary w = primary_of E1 (At default_limit) (trimmed w)
+primary w = primary_of E1 (Some default_limit) (trimmed w)
 
 abbrev pub alternate : List ℕ → List ℕ
-alternate w = alternate_of E1 (At default_limit) (trimmed w)
+alternate w = alternate_of E1 (Some default_limit) (trimmed w)
 
 pub primary_short : (w : List ℕ) → length (primary w) ≤ default_limit
-primary_short w = omega (arith, primary_fits E1 (trimmed w) (At default_limit))
+primary_short w = omega (arith, primary_fits E1 (trimmed w) (Some default_limit))
 
 pub alternate_short : (w : List ℕ) → length (alternate w) ≤ default_limit
-alternate_short w = omega (arith, alternate_fits E1 (trimmed w) (At default_limit))
+alternate_short w = omega (arith, alternate_fits E1 (trimmed w) (Some default_limit))
 
 -- more room than the limit changes no answer
 enough : (w : List ℕ) (m n : ℕ) → default_limit ≤ m → default_limit ≤ n
-    → answer_of E1 (At default_limit) w m n ≡ answer_of E1 (At default_limit) w default_limit default_limit
+    → answer_of E1 (Some default_limit) w m n ≡ answer_of E1 (Some default_limit) w default_limit default_limit
 enough w m n h k =
-    let need : ℕ = need_of (At default_limit) (length (trimmed w)) in
+    let need : ℕ = need_of (Some default_limit) (length (trimmed w)) in
     rw (le-ltb m need (omega arith), le-ltb n need (omega arith), le-ltb default_limit need (omega arith))
 
 -- a line over the word limit is refused by 1
@@ -55,15 +55,15 @@ not_ascii_line w f h = rw (le-ltb word_limit (length w) f, lt-ltb (first_high w)
 pub taken_line : (w : List ℕ) → Taken w → line_of w ≡ primary w ++ 9 ∷ (alternate w ++ 10 ∷ [])
 unfolding line_of
 taken_line w t =
-    let need : ℕ = need_of (At default_limit) (length (trimmed w)) in
+    let need : ℕ = need_of (Some default_limit) (length (trimmed w)) in
     rw (
       le-ltb word_limit (length w) t.fits,
       le-ltb (first_high w) (length w) (no_high w t.ascii),
       le-ltb default_limit need (omega arith),
     )
 
-module _ {x : Encoder} {w p a p' a' : List ℕ} {r : Answer} (made : x ≡ encoder_of E1 (At default_limit)) (e : Encoded x.edition x.limit w p a r p' a') where
-  by_default : Encoded E1 (At default_limit) w p a r p' a'
+module _ {x : Encoder} {w p a p' a' : List ℕ} {r : Answer} (made : x ≡ encoder_of E1 (Some default_limit)) (e : Encoded x.edition x.limit w p a r p' a') where
+  by_default : Encoded E1 (Some default_limit) w p a r p' a'
   by_default = subst (λ (y : Encoder). Encoded y.edition y.limit w p a r p' a') made e
 
   -- the line by the answer's number
@@ -77,5 +77,5 @@ module _ {x : Encoder} {w p a p' a' : List ℕ} {r : Answer} (made : x ≡ encod
       → (np ≡ length (primary w)) × (na ≡ length (alternate w)) × (p' ≡ filled (primary w) p) × (a' ≡ filled (alternate w) a)
   unfolding primary_of alternate_of
   coded np na n q =
-      let x : Walked E1 (At default_limit) w p a r p' a' = code_walked E1 (code_accepted by_default (ap number_of q)) by_default in
+      let x : Walked E1 (Some default_limit) w p a r p' a' = code_walked E1 (code_accepted by_default (ap number_of q)) by_default in
       (ap primary_length (sym q ∙ x.answer), ap alternate_length (sym q ∙ x.answer), x.primary, x.alternate)

@@ -3,7 +3,7 @@ use Rattle.std.specs.Prelude.{ℕ, suc, ◌+◌, ◌≤◌, ◌-◌, zero, ◌�
 use Rattle.encoder.specs.Encode.{default_limit, number_of, answer_of, primary_of, alternate_of}
 use Rattle.line.specs.declared.Span.{Span}
 use Rattle.terms.specs.declared.Edition.TheVariants.{E1}
-use Rattle.terms.specs.declared.Limit.TheVariants.{At}
+use Rattle.std.specs.Prelude.{Some}
 use Rattle.trimming.specs.Trim.{trimmed}
 
 -- the longest line that is written: two codes of 4 bytes, a tab and byte 10
@@ -24,5 +24,5 @@ line_by (suc n) p a = 33 ∷ (48 + suc n) ∷ 10 ∷ []
 -- the line of a word, under edition 1 and the default limit: buffers of as many bytes are never too short
 unfoldable pub line_of : List ℕ → List ℕ
 line_of w =
-    line_by (number_of (answer_of E1 (At default_limit) w default_limit default_limit)) (primary_of E1 (At default_limit) (trimmed w))
-    (alternate_of E1 (At default_limit) (trimmed w))
+    line_by (number_of (answer_of E1 (Some default_limit) w default_limit default_limit)) (primary_of E1 (Some default_limit) (trimmed w))
+    (alternate_of E1 (Some default_limit) (trimmed w))

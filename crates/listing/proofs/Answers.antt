@@ -13,7 +13,7 @@ use Rattle.terms.specs.declared.Edition.{Edition}
 use Rattle.terms.specs.declared.Edition.TheVariants.{E1, E2}
 use Rattle.walk.specs.Walk.{filled}
 use Rattle.walk.specs.Word.{visits_of}
-use Rattle.terms.specs.declared.Limit.{Limit}
+use Rattle.terms.specs.Limits.{Limit}
 use Rattle.answers.specs.declared.Answer.{Answer}
 use Rattle.answers.specs.declared.Answer.TheVariants as answer
 use Rattle.answers.specs.declared.Reply.{Reply}

@@ -2,7 +2,7 @@
 -- `listing_of` (crates/rows/specs/Listing.antt). proofs/NoChoice.antt shows that nothing is left open.
 use Rattle.std.specs.Prelude.{ℕ, ◌/◌, cond, List, ◌≡◌, ltb, length}
 use Rattle.walk.specs.Walk.{filled}
-use Rattle.terms.specs.declared.Limit.{Limit}
+use Rattle.terms.specs.Limits.{Limit}
 use Rattle.trimming.specs.Trim.{trimmed}
 use Rattle.ascii.specs.High.{first_high}
 use Rattle.terms.specs.Limits.{word_limit}

@@ -16,8 +16,8 @@ pub fn need_of(limit: Limit, t: usize) -> usize
         return 0;
     }
     match limit {
-        Limit::Whole => 2 * t - 1,
-        Limit::At(n) => { if n < 2 * t - 1 { n } else { 2 * t - 1 } }
+        None => 2 * t - 1,
+        Some(n) => { if n < 2 * t - 1 { n } else { 2 * t - 1 } }
     }
 }
 
@@ -27,7 +27,7 @@ pub fn cap_of(limit: Limit, t: usize) -> usize
     ensures { result ≡ cap_of limit t }
 {
     match limit {
-        Limit::Whole => 2 * t,
-        Limit::At(n) => n,
+        None => 2 * t,
+        Some(n) => n,
     }
 }

@@ -35,8 +35,8 @@ fn find(s: &[u8], from: usize, b: u8) -> usize
 
 fn limit_of(b: u8) -> Limit {
     match b {
-        b'0'..=b'9' => Limit::At((b - b'0') as usize),
-        _ => Limit::Whole,
+        b'0'..=b'9' => Some((b - b'0') as usize),
+        _ => None,
     }
 }
 

@@ -15,8 +15,8 @@ use Rattle.outcome.specs.declared.Visit.{Visit}
 use Rattle.walk.specs.Walk.{places, joined, to_primary, to_alternate}
 use Rattle.word.specs.Start.{start_of}
 use Rattle.walk.specs.Word.{rule_of, visits_of}
-use Rattle.terms.specs.declared.Limit.{Limit}
-use Rattle.terms.specs.declared.Limit.TheVariants.{Whole, At}
+use Rattle.terms.specs.Limits.{Limit}
+use Rattle.std.specs.Prelude.{Some, None}
 use Rattle.terms.specs.Limits.{clip}
 use Rattle.encoder.specs.Encode.{primary_of, alternate_of, visits_under}
 use Rattle.demands.proofs.Demand3.{code_unlimited, code_limited}
@@ -58,8 +58,8 @@ visits_few ed t = omega (arith, places_few (rule_of ed t) (start_of t) 0 (length
 
 -- no more are visited under a limit
 pub visits_within : (ed : Edition) (l : Limit) (t : List ℕ) → visits_under ed l t ≤ length (visits_of ed t)
-visits_within ed Whole t = omega (arith, (code_unlimited ed t).visits)
-visits_within ed (At n) t = (code_limited ed n t).visits.within
+visits_within ed None t = omega (arith, (code_unlimited ed t).visits)
+visits_within ed (Some n) t = (code_limited ed n t).visits.within
 
 -- ---- the rows
 places_told : (ed : Edition) (t ps : List ℕ) → map (λ (r : Row). r.place) (map (row_at ed t) ps) ≡ ps
@@ -99,15 +99,15 @@ joined_enough g ps n k h = by (ltb k (length ps)) refl
 
 module _ (ed : Edition) (t : List ℕ) where
   primary_joined : (l : Limit) → clip l (joined (to_primary (rule_of ed t)) (places_under ed l t)) ≡ primary_of ed l t
-  primary_joined Whole = ap (joined (to_primary (rule_of ed t))) (take_all (visits_under ed Whole t) (visits_of ed t) (omega (arith, (code_unlimited ed t).visits))) ∙ sym (code_unlimited ed t).primary
-  primary_joined (At n) =
-      joined_enough (to_primary (rule_of ed t)) (visits_of ed t) n (visits_under ed (At n) t) (λ h. ((code_limited ed n t).visits.full_or_all h).primary)
+  primary_joined None = ap (joined (to_primary (rule_of ed t))) (take_all (visits_under ed None t) (visits_of ed t) (omega (arith, (code_unlimited ed t).visits))) ∙ sym (code_unlimited ed t).primary
+  primary_joined (Some n) =
+      joined_enough (to_primary (rule_of ed t)) (visits_of ed t) n (visits_under ed (Some n) t) (λ h. ((code_limited ed n t).visits.full_or_all h).primary)
       ∙ ap (λ (c : List ℕ). take n c) (sym (code_unlimited ed t).primary) ∙ sym (code_limited ed n t).primary
 
   alternate_joined : (l : Limit) → clip l (joined (to_alternate (rule_of ed t)) (places_under ed l t)) ≡ alternate_of ed l t
-  alternate_joined Whole = ap (joined (to_alternate (rule_of ed t))) (take_all (visits_under ed Whole t) (visits_of ed t) (omega (arith, (code_unlimited ed t).visits))) ∙ sym (code_unlimited ed t).alternate
-  alternate_joined (At n) =
-      joined_enough (to_alternate (rule_of ed t)) (visits_of ed t) n (visits_under ed (At n) t) (λ h. ((code_limited ed n t).visits.full_or_all h).alternate)
+  alternate_joined None = ap (joined (to_alternate (rule_of ed t))) (take_all (visits_under ed None t) (visits_of ed t) (omega (arith, (code_unlimited ed t).visits))) ∙ sym (code_unlimited ed t).alternate
+  alternate_joined (Some n) =
+      joined_enough (to_alternate (rule_of ed t)) (visits_of ed t) n (visits_under ed (Some n) t) (λ h. ((code_limited ed n t).visits.full_or_all h).alternate)
       ∙ ap (λ (c : List ℕ). take n c) (sym (code_unlimited ed t).alternate) ∙ sym (code_limited ed n t).alternate
 
   pub listing_many : (l : Limit) → length (listing_of ed l t) ≡ visits_under ed l t

@@ -10,7 +10,7 @@ use Rattle.terms.specs.declared.Edition.{Edition}
 use Rattle.row.specs.Numbers.{Row, row_of, numbers_of}
 use Rattle.word.specs.Mark.{slavo_germanic}
 use Rattle.walk.specs.Word.{visits_of}
-use Rattle.terms.specs.declared.Limit.{Limit}
+use Rattle.terms.specs.Limits.{Limit}
 use Rattle.encoder.specs.Encode.{visits_under}
 
 -- the bytes of a gain that is told as one number (`gain_back` in proofs/Gains.antt)

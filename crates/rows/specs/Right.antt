@@ -4,7 +4,7 @@ use Rattle.byte.specs.Text.{upper}
 use Rattle.rules.specs.Case.{gives}
 use Rattle.rules.specs.Table.{rows, cases_in}
 use Rattle.terms.specs.declared.Edition.{Edition}
-use Rattle.terms.specs.declared.Limit.{Limit}
+use Rattle.terms.specs.Limits.{Limit}
 use Rattle.terms.specs.Limits.{clip}
 use Rattle.encoder.specs.Encode.{primary_of, alternate_of, visits_under}
 use Rattle.row.specs.Numbers.{Row, gained}

@@ -6,8 +6,8 @@ use native.Mathlib.Omega.{arith}
 use borrow.Author.Tests.{lt-ltb, le-ltb}
 use lib.ListN.{length, length-append}
 use Rattle.number.specs.Septets.{groups}
-use Rattle.terms.specs.declared.Limit.{Limit}
-use Rattle.terms.specs.declared.Limit.TheVariants.{At}
+use Rattle.terms.specs.Limits.{Limit}
+use Rattle.std.specs.Prelude.{Some}
 use Rattle.fields.specs.Field.{number}
 use Rattle.fields.specs.Put.{Put}
 use Rattle.fields.proofs.Put.{wide}
@@ -37,5 +37,5 @@ module _ (l : Limit) (room : List ℕ) where
       → Placed (cut_fault (cut_of l)) room 0 (header_bytes (new_header (cut_of l))) r room'
   started cut e h r room' p = rw (e, lt-ltb cut (2 ^ 28) h) p
 
-  pub over_cut : (n : ℕ) → l ≡ At n → 268435454 < n → Placed (cut_fault (cut_of l)) room 0 (header_bytes (new_header (cut_of l))) (Fault 5) room
+  pub over_cut : (n : ℕ) → l ≡ Some n → 268435454 < n → Placed (cut_fault (cut_of l)) room 0 (header_bytes (new_header (cut_of l))) (Fault 5) room
   over_cut n e h = rw e (placed_fault room 0 (header_bytes (new_header (n + 1))) 5 (cut_fault (n + 1)) (rw (le-ltb (n + 1) (2 ^ 28) (omega arith))) (λ z. omega arith))

@@ -27,8 +27,8 @@ pub fn start(room: &mut [u8], limit: Limit) -> Made
     ensures { Placed (cut_fault (cut_of limit)) room.old 0 (header_bytes (new_header (cut_of limit))) result room.new }
 {
     match limit {
-        Limit::Whole => begin(room, 0),
-        Limit::At(n) => {
+        None => begin(room, 0),
+        Some(n) => {
             if 0x0fff_fffe < n {
                 return Made::Fault(BAD_NUMBER);
             }

@@ -1,12 +1,14 @@
 -- How long a word and a code may be.
-use Rattle.std.specs.Prelude.{ℕ, ◌-◌, ◌*◌, List, take}
-use Rattle.terms.specs.declared.Limit.{Limit}
-use Rattle.terms.specs.declared.Limit.TheVariants.{Whole, At}
+use Rattle.std.specs.Prelude.{ℕ, ◌-◌, ◌*◌, List, take, Option, Some, None}
 
--- a code's first bytes; a shorter code counts whole, and no limit puts no bound
+-- how many bytes a code may have; `None` puts no bound
+abbrev pub Limit : Type 0
+Limit = Option ℕ
+
+-- a code's first bytes; a shorter code counts whole
 abbrev pub clip : Limit → List ℕ → List ℕ
-clip Whole c = c
-clip (At n) c = take n c
+clip None c = c
+clip (Some n) c = take n c
 
 -- the bytes that a word may have, before trimming
 abbrev pub word_limit : ℕ

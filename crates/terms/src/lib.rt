@@ -3,7 +3,47 @@
 #![tactic(auto)]
 
 ghost use Rattle.std.specs.Prelude.{◌≡◌};
+ghost use Rattle.terms.specs.Faults.{number_of};
 ghost use Rattle.terms.specs.Editions.{is_second, edition_of};
+
+// The faults of documents 01 and 02 that a book, a join or a listing may show.
+#[derive(Clone, Copy, Debug, PartialEq, Eq)]
+pub enum Fault {
+    TooLong,
+    NotAscii,
+    // A number in a bad form, or none that a book can hold.
+    BadNumber,
+    // The book ends inside something.
+    BookEnds,
+    // A format, an edition or a kind that is not known.
+    NotKnown,
+    // A station that is not above the one before.
+    NotAbove,
+    // Lent room or scratch that is too short.
+    NoRoom,
+    EditionsDiffer,
+    // No live record of the station.
+    NoLive,
+}
+
+// The documents' number of a fault.
+impl From<Fault> for u8 {
+    ghost from_gives = { λ fault n. n ≡ number_of fault };
+
+    fn from(fault: Fault) -> u8 {
+        match fault {
+            Fault::TooLong => 1,
+            Fault::NotAscii => 2,
+            Fault::BadNumber => 5,
+            Fault::BookEnds => 6,
+            Fault::NotKnown => 7,
+            Fault::NotAbove => 8,
+            Fault::NoRoom => 9,
+            Fault::EditionsDiffer => 10,
+            Fault::NoLive => 11,
+        }
+    }
+}
 
 // The refusals of documents 01 and 02 that a book, a join or a listing may show, by name.
 pub const TOO_LONG: u8 = 1;
@@ -36,12 +76,8 @@ pub const WORD_LIMIT: usize = 1024;
 // A code of any accepted word has room here, whatever the limit.
 pub const CODE_ROOM: usize = 2 * WORD_LIMIT - 1;
 
-// How many bytes a code may have.
-#[derive(Clone, Copy)]
-pub enum Limit {
-    Whole,
-    At(usize),
-}
+// How many bytes a code may have; `None` puts no bound.
+pub type Limit = Option<usize>;
 
 // The editions of the rules: the first is the Rust's, the second reads one test of C otherwise (crates/rules/specs/CasesC.antt).
 #[derive(Clone, Copy)]

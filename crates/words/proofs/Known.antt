@@ -23,8 +23,8 @@ use Rattle.word.specs.Start.{start_of}
 use Rattle.walk.specs.Word.{visits_of}
 use Rattle.terms.specs.declared.Edition.{Edition}
 use Rattle.terms.specs.declared.Edition.TheVariants.{E1, E2}
-use Rattle.terms.specs.declared.Limit.{Limit}
-use Rattle.terms.specs.declared.Limit.TheVariants.{Whole, At}
+use Rattle.terms.specs.Limits.{Limit}
+use Rattle.std.specs.Prelude.{Some, None}
 use Rattle.answers.specs.declared.Answer.{Answer}
 use Rattle.answers.specs.declared.Answer.TheVariants.{PrimaryShort, AlternateShort, Coded}
 use Rattle.trimming.specs.Trim.{trimmed}
@@ -59,28 +59,28 @@ given k = record { primary = bytes k.primary; alternate = bytes k.alternate; vis
 
 unfoldable pub others : List Known
 others =
-    known "" Whole "" "" 0
-    ∷ known "jumped" Whole "JMPT" "AMPT" 6
-    ∷ known "jumped" (At 1) "J" "A" 1
-    ∷ known "jumped" (At 0) "" "" 0
-    ∷ known "GN" Whole "N" "N" 1
-    ∷ known "XX" Whole "SKS" "SKS" 2
-    ∷ known "KXZ" Whole "KKSS" "KKSTS" 3
-    ∷ known "KXZ" (At 2) "KK" "KK" 2
-    ∷ known "Mac Gregor" Whole "MKRKR" "MKRKR" 8
-    ∷ known "Mac Gregor" (At 4) "MKRK" "MKRK" 6
-    ∷ known "Rogier" (At 3) "RJ" "RJR" 5
-    ∷ known "Villa" Whole "FL" "F" 4
-    ∷ known "artois" Whole "ART" "ARTS" 6
+    known "" None "" "" 0
+    ∷ known "jumped" None "JMPT" "AMPT" 6
+    ∷ known "jumped" (Some 1) "J" "A" 1
+    ∷ known "jumped" (Some 0) "" "" 0
+    ∷ known "GN" None "N" "N" 1
+    ∷ known "XX" None "SKS" "SKS" 2
+    ∷ known "KXZ" None "KKSS" "KKSTS" 3
+    ∷ known "KXZ" (Some 2) "KK" "KK" 2
+    ∷ known "Mac Gregor" None "MKRKR" "MKRKR" 8
+    ∷ known "Mac Gregor" (Some 4) "MKRK" "MKRK" 6
+    ∷ known "Rogier" (Some 3) "RJ" "RJR" 5
+    ∷ known "Villa" None "FL" "F" 4
+    ∷ known "artois" None "ART" "ARTS" 6
     ∷ []
 
 -- document 01's table names edition 1
 unfoldable pub names : List Known
-names = known "Van Chi" Whole "FNX" "FNK" 6 ∷ others
+names = known "Van Chi" None "FNX" "FNK" 6 ∷ others
 
 -- of its names Van Chi alone has another key under edition 2
 unfoldable pub names2 : List Known
-names2 = known "Van Chi" Whole "FNK" "FNK" 6 ∷ others
+names2 = known "Van Chi" None "FNK" "FNK" 6 ∷ others
 
 pub names_known : map (defined E1) names ≡ map given names
 unfolding defined given names others primary_of alternate_of trimmed visits_of start_of begins_one has_one slavo_germanic visit first holds rows cases_in swallows cases_c cases_d cases_g cases_h cases_j cases_l cases_m cases_p cases_r cases_s cases_t cases_w cases_x cases_z cases_vowel cases_rest up upper is_at sees byte_at vowel vowel_at ends_after is_long same
@@ -93,12 +93,12 @@ names2_known = refl
 -- a full primary code alone does not end the walk; both codes full end it; the last J's space counts; blanks go and 28 stays
 unfoldable pub edges : List Known
 edges =
-    known "Villa" (At 2) "FL" "F" 4
-    ∷ known "artois" (At 3) "ART" "ART" 3
-    ∷ known "Rogier" (At 2) "RJ" "RJ" 3
-    ∷ known "Saj" (At 4) "SJ" "S " 3
-    ∷ known "\u{b} jumped\r\n" (At 4) "JMPT" "AMPT" 6
-    ∷ known "\u{1c}jumped" (At 4) "JMPT" "JMPT" 7
+    known "Villa" (Some 2) "FL" "F" 4
+    ∷ known "artois" (Some 3) "ART" "ART" 3
+    ∷ known "Rogier" (Some 2) "RJ" "RJ" 3
+    ∷ known "Saj" (Some 4) "SJ" "S " 3
+    ∷ known "\u{b} jumped\r\n" (Some 4) "JMPT" "AMPT" 6
+    ∷ known "\u{1c}jumped" (Some 4) "JMPT" "JMPT" 7
     ∷ []
 
 pub edges_known : map (defined E1) edges ≡ map given edges
@@ -107,7 +107,7 @@ edges_known = refl
 
 -- KXZ with no limit takes buffers of 5 and refuses 4, also the primary one, though its code has 4
 unfoldable pub kxz : ℕ → ℕ → Answer
-kxz m n = answer_of E1 Whole (bytes "KXZ") m n
+kxz m n = answer_of E1 None (bytes "KXZ") m n
 
 pub kxz_room : (kxz 5 5 ∷ kxz 4 5 ∷ kxz 5 4 ∷ []) ≡ (Coded 4 5 3 ∷ PrimaryShort ∷ AlternateShort ∷ [])
 unfolding kxz primary_of alternate_of trimmed visits_of start_of begins_one has_one slavo_germanic visit first holds rows cases_in swallows cases_c cases_d cases_g cases_h cases_j cases_l cases_m cases_p cases_r cases_s cases_t cases_w cases_x cases_z cases_vowel cases_rest up upper is_at sees byte_at vowel vowel_at ends_after is_long same

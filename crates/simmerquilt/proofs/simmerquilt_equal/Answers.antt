@@ -1,6 +1,6 @@
 -- `simmerquilt::simmerquilt_equal` meets its contract: it tells what `equal` answers under the host's limit and choice.
 use mathlib.Core.Path.{ap, ap₂, ◌∙◌}
-use Rattle.terms.specs.declared.Limit.{Limit}
+use Rattle.terms.specs.Limits.{Limit}
 use Rattle.chosen.specs.declared.Choice.{Choice}
 use Rattle.equality.specs.Equality.{verdict_of}
 use Rattle.answers.specs.Numbers.{verdict_numbers}

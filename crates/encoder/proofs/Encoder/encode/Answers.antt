@@ -5,7 +5,7 @@ use mathlib.Core.List.{List}
 use mathlib.Core.Bool.{true}
 use native.Mathlib.Omega.{arith}
 use lib.ListN.{length}
-use Rattle.terms.specs.declared.Limit.{Limit}
+use Rattle.terms.specs.Limits.{Limit}
 use Rattle.trimming.specs.Trim.{trimmed}
 use Rattle.ascii.specs.High.{is_ascii}
 use Rattle.terms.specs.Limits.{word_limit}

@@ -3,6 +3,9 @@
 use mathlib.Core.Path.{◌≡◌, sym, ◌∙◌}
 use borrow.Fn.Kinds.{Dens, res_t, ended_of}
 use denote.Triple.Clauses.{AtExit}
+use Rattle.basics.proofs.Choice.{OneResult}
+use Rattle.answers.proofs.Refusal.place.Kinds as place-kinds
+use Rattle.answers.proofs.Refusal.place.Reads as place
 use Rattle.answers.proofs.tell_answer.Kinds as answer-kinds
 use Rattle.answers.proofs.tell_answer.Reads as answer
 use Rattle.answers.proofs.tell_reply.Kinds as reply-kinds
@@ -22,3 +25,6 @@ module _ (κs : Lfts 1) (a : Dens κs reply-kinds.ps) (x y : (res_t reply-kinds.
 module _ (κs : Lfts 1) (a : Dens κs verdict-kinds.ps) (x y : (res_t verdict-kinds.r κs).Denot) (s t : AtExit (ended_of 1 verdict-kinds.ps verdict-kinds.r) κs) where
   pub one_verdict : verdict.Post κs a x s → verdict.Post κs a y t → s.1.0.now ≡ t.1.0.now
   one_verdict p q = p ∙ sym q
+
+pub one_place : OneResult place-kinds.ps place-kinds.r place.Post
+one_place κs a x y s t p q = p ∙ sym q

@@ -1,6 +1,7 @@
 -- Which formats of a book and which editions of the rules are known, by their numbers, and which a new book carries.
-use Rattle.std.specs.Prelude.{ℕ, Bool, true, false, cond, ◌||◌, eqb, ltb}
+use Rattle.std.specs.Prelude.{ℕ, Bool, true, false, cond, ◌||◌, eqb, ltb, Result, Ok, Err}
 use Rattle.terms.specs.declared.Edition.{Edition}
+use Rattle.terms.specs.declared.UnknownEdition.{UnknownEdition}
 use Rattle.terms.specs.declared.Edition.TheVariants.{E1, E2}
 
 -- those from 1 to these
@@ -27,3 +28,7 @@ is_second E2 = true
 -- the edition of a number that is not unknown
 abbrev pub edition_of : ℕ → Edition
 edition_of n = cond (eqb n 1) E1 E2
+
+-- what a number names: its edition, or none
+abbrev pub named_by : ℕ → Result Edition UnknownEdition
+named_by n = cond (is_unknown n) (Err (record {})) (Ok (edition_of n))

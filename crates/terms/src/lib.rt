@@ -1,10 +1,12 @@
-// What the documents fix once: the numbers of the refusals, how long a word and a code may be, which formats and editions are known, and
+// What the documents fix once: the faults and their numbers, how long a word and a code may be, which formats and editions are known, and
 // which a new book carries.
 #![tactic(auto)]
 
 ghost use Rattle.std.specs.Prelude.{◌≡◌};
 ghost use Rattle.terms.specs.Faults.{number_of};
-ghost use Rattle.terms.specs.Editions.{is_second, edition_of};
+ghost use Rattle.terms.specs.Editions.{is_second, edition_of, named_by};
+
+use std::fmt;
 
 // The faults of documents 01 and 02 that a book, a join or a listing may show.
 #[derive(Clone, Copy, Debug, PartialEq, Eq)]
@@ -80,7 +82,7 @@ pub const CODE_ROOM: usize = 2 * WORD_LIMIT - 1;
 pub type Limit = Option<usize>;
 
 // The editions of the rules: the first is the Rust's, the second reads one test of C otherwise (crates/rules/specs/CasesC.antt).
-#[derive(Clone, Copy)]
+#[derive(Clone, Copy, Debug, PartialEq, Eq)]
 pub enum Edition {
     E1,
     E2,
@@ -90,10 +92,7 @@ impl Edition {
     pub fn is_second(self) -> bool
         ensures { result ≡ is_second self }
     {
-        match self {
-            Edition::E1 => false,
-            Edition::E2 => true,
-        }
+        matches!(self, Edition::E2)
     }
 }
 
@@ -105,6 +104,30 @@ pub fn edition_of(number: u64) -> Edition
         Edition::E1
     } else {
         Edition::E2
+    }
+}
+
+// A number that names no edition.
+#[derive(Clone, Copy, Debug, PartialEq, Eq)]
+pub struct UnknownEdition;
+
+impl TryFrom<u64> for Edition {
+    type Error = UnknownEdition;
+
+    ghost try_from_gives = { λ number named. named ≡ named_by number };
+
+    fn try_from(number: u64) -> Result<Self, UnknownEdition> {
+        match number {
+            1 => Ok(Edition::E1),
+            2 => Ok(Edition::E2),
+            _ => Err(UnknownEdition),
+        }
+    }
+}
+
+impl fmt::Display for UnknownEdition {
+    fn fmt<W: fmt::Write>(&self, f: &mut fmt::Formatter<W>) -> fmt::Result {
+        f.write_str("no edition has this number")
     }
 }
 

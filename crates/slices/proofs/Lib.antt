@@ -1,5 +1,5 @@
 -- Laws of slices.
---     Parts      a part inside, and one that is not
+--     Parts      a part inside
 --     NoChoice   no public function's promise leaves a choice
 pub mod Parts
 pub mod NoChoice

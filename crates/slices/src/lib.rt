@@ -14,28 +14,22 @@ pub struct Span {
 pub fn least(a: usize, b: usize) -> usize
     ensures { result ≡ min a b }
 {
-    if a < b { a } else { b }
+    a.min(b)
 }
 
 // The bytes of a part, and none where it does not lie in `s`.
 pub fn bytes_of(s: &[u8], span: Span) -> &[u8]
     ensures { result.now ≡ within s.now span }
 {
-    let start = span.start;
-    let len = span.len;
-    if s.len() < start {
-        return &s[..0];
+    match s.get(span.start..) {
+        Some(rest) if span.len <= rest.len() => &rest[..span.len],
+        _ => &[],
     }
-    if s.len() - start < len {
-        return &s[..0];
-    }
-    let end = start + len;
-    &s[start..end]
 }
 
 // How many bytes there are from a place on.
 pub fn left_from(s: &[u8], at: usize) -> usize
     ensures { result ≡ length s.now - at }
 {
-    if s.len() <= at { 0 } else { s.len() - at }
+    s.len().saturating_sub(at)
 }

@@ -1,5 +1,5 @@
 -- Laws of comparing.
---     Bytes      two slices compared, turn by turn
+--     Bytes      the library's `==` of two slices
 --     NoChoice   no public function's promise leaves a choice
 pub mod Bytes
 pub mod NoChoice

@@ -1,5 +1,5 @@
 // Two slices of bytes compared.
-#![tactic(auto)]
+#![tactic(auto, using(crate::proofs::Bytes::same_pointwise))]
 
 ghost use Rattle.std.specs.Prelude.{◌≡◌};
 ghost use Rattle.basics.specs.Same.{same};
@@ -8,15 +8,5 @@ ghost use Rattle.basics.specs.Same.{same};
 pub fn same_bytes(x: &[u8], y: &[u8]) -> bool
     ensures { result ≡ same x.now y.now }
 {
-    if x.len() != y.len() {
-        return false;
-    }
-    let mut i = 0;
-    while i < x.len() {
-        if x[i] != y[i] {
-            return false;
-        }
-        i += 1;
-    }
-    true
+    x == y
 }

@@ -12,7 +12,7 @@ use Rattle.terms.specs.Limits.{word_limit}
 use Rattle.ascii.specs.High.{first_high}
 use Rattle.fields.specs.Got.{good}
 use Rattle.fields.specs.Field.{fault_in}
-use Rattle.fields.proofs.Field.{none_in}
+use Rattle.fields.proofs.Forms.{none_in}
 use Rattle.terms.specs.Editions.{last_edition, last_format}
 use Rattle.header.specs.declared.Header.{Header}
 use Rattle.entry.specs.Entry.{Record, Entry, rising, above}

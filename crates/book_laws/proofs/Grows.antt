@@ -14,7 +14,7 @@ use Rattle.chosen.specs.declared.Choice.TheVariants.{Primary, Alternate}
 use Rattle.terms.specs.Limits.{word_limit}
 use Rattle.terms.specs.Editions.{edition_of}
 use Rattle.fields.specs.Got.{Got, good, bad, write_all}
-use Rattle.fields.proofs.Field.{none_in}
+use Rattle.fields.proofs.Forms.{none_in}
 use Rattle.fields.proofs.All as all
 use Rattle.header.specs.declared.Header.{Header}
 use Rattle.entry.specs.Entry.{Entry, entry_bytes, above}

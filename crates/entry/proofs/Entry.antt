@@ -10,7 +10,7 @@ use lib.ListN.{length, take, length-append}
 use Rattle.fields.specs.Got.{Got, good, Both}
 use Rattle.fields.specs.Field.{number, text, read_number, FineNumber, FineText, any}
 use Rattle.fields.proofs.Law.{Law, same, as_far, Fines, both, renamed}
-use Rattle.fields.proofs.Field.{number_law, text_law, some_number}
+use Rattle.fields.proofs.Forms.{number_law, text_law, some_number}
 use Rattle.entry.specs.Entry.{Record, Entry, record_bytes, kind_bytes, entry_bytes, kinds, rising, Texts, record_of, entry_of, read_record, read_kind, read_entry}
 use Rattle.name.specs.Named.{name_length, name_byte}
 

@@ -9,7 +9,7 @@ use Rattle.slices.specs.declared.Span.{Span}
 use Rattle.fields.specs.Got.{Got, good, bad, Both, read_both, mapped}
 use Rattle.fields.specs.Field.{number, text, read_number, read_text, any}
 use Rattle.fields.specs.Told.{value_at, span_at, part_at}
-use Rattle.fields.proofs.Field.{number_law, text_law}
+use Rattle.fields.proofs.Forms.{number_law, text_law}
 use Rattle.fields.proofs.Told.{value_told, value_fault, part_told, part_fault, then_good, then_first, then_second}
 use Rattle.entry.specs.Entry.{rising, record_of, Texts, read_record}
 use Rattle.name.specs.Named.{name_length, name_byte}

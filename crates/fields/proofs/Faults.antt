@@ -1,69 +1,70 @@
 -- Which faults a reading can give.
 use Prim.Native.Nat.{ℕ, zero, suc, ◌-◌}
-use mathlib.Core.Path.{◌≡◌, refl, sym}
+use mathlib.Core.Path.{◌≡◌, refl, sym, ◌∙◌}
 use mathlib.Core.Bool.{Bool, true, false, cond}
 use mathlib.Core.List.{List, [], ◌∷◌}
 use native.Mathlib.Omega.{arith}
-use borrow.Author.Tests.{eqb-false}
-use lib.Dec.{ltb, eqb}
+use lib.Dec.{ltb}
 use lib.ListN.{length, take, drop}
-use Rattle.number.specs.declared.Found.{Found}
-use Rattle.number.specs.declared.Found.TheVariants.{Number, Bad, Short}
+use Rattle.terms.specs.declared.Fault.{Fault}
+use Rattle.terms.specs.declared.Fault.TheVariants.{BadNumber, BookEnds}
+use Rattle.std.specs.Prelude.{Option, Some, None, Result, Ok, Err}
+use Rattle.number.specs.declared.Number.{Number}
 use Rattle.number.specs.Septets.{reads}
+use Rattle.number.proofs.Laws.{reads_only}
 use Rattle.fields.specs.Got.{Got, good, bad, beside, before, read_both, mapped, grown, further, read_all}
-use Rattle.fields.specs.Field.{judged, read_number, fault_in, read_bytes, moved, bytes_behind, read_text}
+use Rattle.fields.specs.Field.{unless, judged, read_number, first, fault_in, read_bytes, moved, bytes_behind, read_text}
 use Rattle.fields.proofs.Law.{same_fault}
 
 -- each fault that the reading gives is one of P
-abbrev pub Only : {A : Type 0} → (ℕ → Type 0) → (List ℕ → Got A) → Type 0
-Only P read = (l : List ℕ) (f : ℕ) → read l ≡ bad f → P f
+abbrev pub Only : {A : Type 0} → (Fault → Type 0) → (List ℕ → Got A) → Type 0
+Only P read = (l : List ℕ) (f : Fault) → read l ≡ bad f → P f
 
-no_fault : {A B : Type 0} {a : A} {n f : ℕ} → good a n ≡ bad f → B
+no_fault : {A B : Type 0} {a : A} {n : ℕ} {f : Fault} → good a n ≡ bad f → B
 no_fault e = let z : ◌≡◌ {A = ℕ} 0 1 = cc in absurd (omega arith)
 
-module _ (P : ℕ → Type 0) where
+module _ (P : Fault → Type 0) where
   -- the faults of a judge
-  abbrev pub Judged : (ℕ → ℕ) → Type 0
-  Judged judge = (v : ℕ) → (judge v ≡ 0 → ⊥) → P (judge v)
+  abbrev pub Judged : (ℕ → Option Fault) → Type 0
+  Judged judge = (v : ℕ) (f : Fault) → judge v ≡ Some f → P f
 
-  told : {A : Type 0} {g f : ℕ} → P g → ◌≡◌ {A = Got A} (bad g) (bad f) → P f
+  told : {A : Type 0} {g f : Fault} → P g → ◌≡◌ {A = Got A} (bad g) (bad f) → P f
   told p e = rw (sym (same_fault e)) p
 
-  pub only_number : P 5 → P 6 → (judge : ℕ → ℕ) → Judged judge → Only P (read_number judge)
+  pub only_number : P BadNumber → P BookEnds → (judge : ℕ → Option Fault) → Judged judge → Only P (read_number judge)
   unfolding read_number
-  only_number five six judge j l f e = go (reads 4 true l) e
+  only_number five six judge j l f e = go (reads 4 true l) refl e
     where
-      go : (r : Found) → judged judge r ≡ bad f → P f
-      go Bad e = told five e
-      go Short e = told six e
-      go (Number v n) e = next (eqb (judge v) 0) refl e
+      go : (r : Result Number Fault) → reads 4 true l ≡ r → judged judge r ≡ bad f → P f
+      go (Err g) d e = told (reads_only P five six 4 true l g d) e
+      go (Ok r) d e = next (judge r.value) refl e
         where
-          next : (t : Bool) → eqb (judge v) 0 ≡ t → cond t (good v n) (bad (judge v)) ≡ bad f → P f
-          next true d e = no_fault e
-          next false d e = told (j v (eqb-false (judge v) 0 d)) e
+          next : (g : Option Fault) → judge r.value ≡ g → unless g (good r.value r.used) ≡ bad f → P f
+          next None d e = no_fault e
+          next (Some g) d e = told (j r.value g d) e
 
-  only_run : (judge : ℕ → ℕ) → Judged judge → (l : List ℕ) → (fault_in judge l ≡ 0 → ⊥) → P (fault_in judge l)
-  only_run judge j [] z = absurd (z refl)
-  only_run judge j (b ∷ l) z = go (eqb (judge b) 0) refl z (only_run judge j l)
+  only_run : (judge : ℕ → Option Fault) → Judged judge → (l : List ℕ) (f : Fault) → fault_in judge l ≡ Some f → P f
+  only_run judge j [] f e = let z : ◌≡◌ {A = ℕ} 0 1 = cc in absurd (omega arith)
+  only_run judge j (b ∷ l) f e = go (judge b) refl e (only_run judge j l f)
     where
-      go : (t : Bool) → eqb (judge b) 0 ≡ t → (cond t (fault_in judge l) (judge b) ≡ 0 → ⊥) → ((fault_in judge l ≡ 0 → ⊥) → P (fault_in judge l)) → P (cond t (fault_in judge l) (judge b))
-      go true d z ih = ih z
-      go false d z ih = j b z
+      go : (g : Option Fault) → judge b ≡ g → first g (fault_in judge l) ≡ Some f → (fault_in judge l ≡ Some f → P f) → P f
+      go None d e ih = ih e
+      go (Some g) d e ih = j b f (d ∙ e)
 
-  pub only_bytes : P 6 → (judge : ℕ → ℕ) → Judged judge → (n : ℕ) → Only P (read_bytes judge n)
+  pub only_bytes : P BookEnds → (judge : ℕ → Option Fault) → Judged judge → (n : ℕ) → Only P (read_bytes judge n)
   unfolding read_bytes
-  only_bytes six judge j n l f e = go (eqb (fault_in judge (take n l)) 0) refl (ltb (length l) n) e
+  only_bytes six judge j n l f e = go (fault_in judge (take n l)) refl (ltb (length l) n) e
     where
-      go : (t : Bool) → eqb (fault_in judge (take n l)) 0 ≡ t → (s : Bool) → cond t (cond s (bad 6) (good (take n l) n)) (bad (fault_in judge (take n l))) ≡ bad f → P f
-      go true d true e = told six e
-      go true d false e = no_fault e
-      go false d s e = told (only_run judge j (take n l) (eqb-false _ 0 d)) e
+      go : (g : Option Fault) → fault_in judge (take n l) ≡ g → (s : Bool) → unless g (cond s (bad BookEnds) (good (take n l) n)) ≡ bad f → P f
+      go None d true e = told six e
+      go None d false e = no_fault e
+      go (Some g) d s e = told (only_run judge j (take n l) g d) e
 
-  pub only_text : P 5 → P 6 → (jn jb : ℕ → ℕ) → Judged jn → Judged jb → Only P (read_text jn jb)
+  pub only_text : P BadNumber → P BookEnds → (jn jb : ℕ → Option Fault) → Judged jn → Judged jb → Only P (read_text jn jb)
   unfolding read_text
   only_text five six jn jb j k l f e = go (read_number jn l) refl e
     where
-      next : (i : ℕ) (y : Got (List ℕ)) → ((g : ℕ) → y ≡ bad g → P g) → moved i y ≡ bad f → P f
+      next : (i : ℕ) (y : Got (List ℕ)) → ((g : Fault) → y ≡ bad g → P g) → moved i y ≡ bad f → P f
       next i (bad g) h e = told (h g refl) e
       next i (good t n) h e = no_fault e
 
@@ -75,7 +76,7 @@ module _ (P : ℕ → Type 0) where
     pub only_both : (r : List ℕ → Got A) (s : List ℕ → Got B) → Only P r → Only P s → Only P (read_both r s)
     only_both r s p q l f e = go (r l) refl e
       where
-        next : (a : A) (n : ℕ) (y : Got B) → ((g : ℕ) → y ≡ bad g → P g) → beside a n y ≡ bad f → P f
+        next : (a : A) (n : ℕ) (y : Got B) → ((g : Fault) → y ≡ bad g → P g) → beside a n y ≡ bad f → P f
         next a n (bad g) h e = told (h g refl) e
         next a n (good b m) h e = no_fault e
 
@@ -97,10 +98,10 @@ module _ (P : ℕ → Type 0) where
     only_all state (suc skip) (b ∷ l) f e = only_all state skip l f e
     only_all state zero (b ∷ l) f e = go (λ st k. only_all st k l) (read state (b ∷ l)) refl e
       where
-        next : (a : A) (n : ℕ) (y : Got (List A)) → ((g : ℕ) → y ≡ bad g → P g) → grown a n y ≡ bad f → P f
+        next : (a : A) (n : ℕ) (y : Got (List A)) → ((g : Fault) → y ≡ bad g → P g) → grown a n y ≡ bad f → P f
         next a n (bad g) h e = told (h g refl) e
         next a n (good vs m) h e = no_fault e
 
-        go : ((st k g : ℕ) → read_all read left st k l ≡ bad g → P g) → (x : Got A) → read state (b ∷ l) ≡ x → further x (λ a n. read_all read left (left a) (n - 1) l) ≡ bad f → P f
+        go : ((st k : ℕ) (g : Fault) → read_all read left st k l ≡ bad g → P g) → (x : Got A) → read state (b ∷ l) ≡ x → further x (λ a n. read_all read left (left a) (n - 1) l) ≡ bad f → P f
         go ih (bad g) d e = told (only state (b ∷ l) g d) e
         go ih (good a n) d e = next a n (read_all read left (left a) (n - 1) l) (ih (left a) (n - 1)) e

@@ -1,6 +1,6 @@
 -- Laws of fields.
 --     Law        what makes a form; two forms, one behind the other, are a form
---     Field      a judged number and a judged text are forms
+--     Forms      a judged number and a judged text are forms
 --     All        readings one after another, up to the end
 --     Told       from answers to readings and back
 --     Stays      what is shown does not change with what stands behind it
@@ -8,7 +8,7 @@
 --     Put        bytes put one behind the other
 --     NoChoice   no public function's promise leaves a choice
 pub mod Law
-pub mod Field
+pub mod Forms
 pub mod All
 pub mod Told
 pub mod Stays

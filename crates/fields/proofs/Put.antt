@@ -1,13 +1,15 @@
 -- Bytes put one behind the other, and how many a number and a text take.
 use Prim.Native.Nat.{ℕ, zero, suc, ◌+◌, ◌/◌, ◌%◌, ◌^◌, ◌≤◌, ◌<◌}
-use mathlib.Core.Path.{◌≡◌, refl, ap, ◌∙◌}
+use mathlib.Core.Path.{◌≡◌, refl, sym, ap, ◌∙◌}
 use mathlib.Core.Bool.{Bool, true, false, cond}
 use mathlib.Core.List.{List, [], ◌∷◌, ◌++◌}
 use native.Mathlib.Omega.{arith}
 use lib.Dec.{ltb}
 use lib.ListN.{length, length-append}
 use lib.Seq.{sets, length-sets}
-use Rattle.number.specs.Septets.{groups, leaves}
+use Rattle.number.specs.Septets.{groups, writes, leaves}
+use Rattle.std.specs.Prelude.{Result, Ok}
+use Rattle.terms.specs.declared.Fault.{Fault}
 use Rattle.number.proofs.Laws.{room}
 use Rattle.fields.specs.Field.{number, text}
 use Rattle.fields.specs.Put.{Put}
@@ -39,10 +41,15 @@ pub four : (x : ℕ) → length (number x) ≤ 4
 unfolding number
 four x = groups_short 4 x
 
-pub number_put : (out : List ℕ) (at x w : ℕ) (out' : List ℕ) → x < 2 ^ 28 → at + length (number x) ≤ length out → out' ≡ leaves out at x → w ≡ length (groups 4 x)
-    → Put out at (number x) (at + w) out'
+pub number_goes : (out : List ℕ) (at x : ℕ) → x < 2 ^ 28 → at + length (number x) ≤ length out → writes out at x ≡ Ok (at + length (number x))
 unfolding number
-number_put out at x w out' h l e d = record { next = ap (λ (k : ℕ). at + k) d; leaves = e ∙ (room out at x h l).1 }
+number_goes out at x h l = (room out at x h l).0
+
+pub number_put : (out : List ℕ) (at x r : ℕ) (out' : List ℕ) → x < 2 ^ 28 → at + length (number x) ≤ length out → writes out at x ≡ Ok r → out' ≡ leaves out at x → Put out at (number x) r out'
+unfolding number
+number_put out at x r out' h l d e =
+    let k : ◌≡◌ {A = Result ℕ Fault} (Ok r) (Ok (at + length (groups 4 x))) = sym d ∙ (room out at x h l).0 in
+    record { next = cc; leaves = e ∙ (room out at x h l).1 }
 
 pub text_length : (t : List ℕ) → length (text t) ≡ length (number (length t)) + length t
 unfolding text

@@ -7,57 +7,45 @@ ghost use Rattle.fields.specs.Put.{Put};
 ghost use Rattle.fields.specs.Told.{value_at, part_at, bytes_at};
 
 use slices::Span;
-use terms::{BAD_NUMBER, BOOK_ENDS};
+use terms::Fault;
 
-#[derive(Clone, Copy)]
-pub enum Value {
-    At { value: u32, next: usize },
-    Fault(u8),
-}
-
-#[derive(Clone, Copy)]
-pub enum Part {
-    At { span: Span, next: usize },
-    Fault(u8),
+// What was read at a place, and the place behind it.
+#[derive(Clone, Copy, Debug, PartialEq, Eq)]
+pub struct Field<T> {
+    pub value: T,
+    pub next: usize,
 }
 
 // The number at a place.
-pub fn number_at(s: &[u8], at: usize) -> Value
+pub fn number_at(s: &[u8], at: usize) -> Result<Field<u32>, Fault>
     ensures { result ≡ value_at at (read_number any (drop at s.now)) }
 {
-    let found = number::read_number(s, at);
-    match found {
-        number::Found::Number(value, used) => Value::At {
-            value,
-            next: at + used,
-        },
-        number::Found::Bad => Value::Fault(BAD_NUMBER),
-        number::Found::Short => Value::Fault(BOOK_ENDS),
-    }
+    let found = number::read_number(s, at)?;
+    Ok(Field {
+        value: found.value,
+        next: at + found.used,
+    })
 }
 
 // `len` bytes from a place on, whatever they are.
-pub fn bytes_at(s: &[u8], start: usize, len: usize) -> Part
+pub fn bytes_at(s: &[u8], start: usize, len: usize) -> Result<Field<Span>, Fault>
     ensures { result ≡ bytes_at start (read_bytes any len (drop start s.now)) }
 {
     if slices::left_from(s, start) < len {
-        return Part::Fault(BOOK_ENDS);
+        return Err(Fault::BookEnds);
     }
-    Part::At {
-        span: Span { start, len },
+    Ok(Field {
+        value: Span { start, len },
         next: start + len,
-    }
+    })
 }
 
 // The text at a place, whatever its length and its bytes are.
-pub fn text_at(s: &[u8], at: usize) -> Part
+pub fn text_at(s: &[u8], at: usize) -> Result<Field<Span>, Fault>
     ensures { result ≡ part_at at (read_text any any (drop at s.now)) }
 {
-    let long = number_at(s, at);
-    match long {
-        Value::At { value, next } => bytes_at(s, next, value as usize),
-        Value::Fault(f) => Part::Fault(f),
-    }
+    let long = number_at(s, at)?;
+    bytes_at(s, long.next, long.value as usize)
 }
 
 // Puts a number at a place, and gives the place behind it.
@@ -65,8 +53,7 @@ pub fn put_number(out: &mut [u8], at: usize, x: u32) -> usize
     requires { (x < 2 ^ 28) × (at + length (number x) ≤ length out.old) }
     ensures { Put out.old at (number x) result out.new }
 {
-    number::write_number(out, at, x);
-    at + number::width(x)
+    number::write_number(out, at, x).unwrap()
 }
 
 // Puts a text's length and its bytes.

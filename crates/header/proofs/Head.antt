@@ -6,7 +6,7 @@ use borrow.Author.Tests.{le-leb, lt-leb, ne_eqb}
 use Rattle.fields.specs.Got.{Both}
 use Rattle.fields.specs.Field.{FineNumber, any}
 use Rattle.fields.proofs.Law.{Law, Fines, both, renamed}
-use Rattle.fields.proofs.Field.{number_law}
+use Rattle.fields.proofs.Forms.{number_law}
 use Rattle.header.specs.declared.Header.{Header}
 use Rattle.header.specs.Head.{header_bytes, editions, header_of, read_header_by, formats, unknown, known, limit_of}
 use Rattle.std.specs.Prelude.{Some}

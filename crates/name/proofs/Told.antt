@@ -10,7 +10,7 @@ use lib.ListN.{length, take, drop, length-drop}
 use Rattle.fields.specs.declared.Part.{Part}
 use Rattle.fields.specs.Field.{number, read_number, read_bytes, fault_in, any}
 use Rattle.fields.specs.Told.{value_at, bytes_at}
-use Rattle.fields.proofs.Field.{number_law, some_number, bytes_bad, bytes_good, bytes_short, none_in}
+use Rattle.fields.proofs.Forms.{number_law, some_number, bytes_bad, bytes_good, bytes_short, none_in}
 use Rattle.fields.proofs.Told.{value_told}
 use Rattle.ascii.specs.High.{any_high, is_ascii}
 use Rattle.terms.specs.Limits.{word_limit}

@@ -1,24 +1,19 @@
 -- `fields::number_at` meets its contract.
 use native.Mathlib.Omega.{arith}
-use Rattle.fields.proofs.Told.{found, found_fits, found_bad, found_short}
+use Rattle.std.proofs.lemmas.Result.{err_from_is_err_and}
+use Rattle.fields.proofs.Told.{found_number, found_fits, found_fault}
 use Rattle.fields.proofs.number_at.Goals as goal
+
+pub returns-in_err-found : goal.returns-in_err-found
+returns-in_err-found c =
+    let a = c.args in
+    let p = err_from_is_err_and c.from_residual.result c.from_residual.ensures.1 in
+    rw (p.1, p.2) (found_fault a.s.now a.at _ c.in_err-found.ensures)
 
 pub overflow_add-result : goal.overflow_add-result
 overflow_add-result c =
     let a = c.args in
-    omega (arith, found_fits a.s.now a.at _ _ _ c.read_number-found.ensures c.in-Number.is)
+    omega (arith, found_fits a.s.now a.at _ c.in_ok-found.ensures)
 
-pub returns-in-Number : goal.returns-in-Number
-returns-in-Number c =
-    let a = c.args in
-    found a.s.now a.at _ _ _ c.read_number-found.ensures c.in-Number.is
-
-pub returns-in-Bad : goal.returns-in-Bad
-returns-in-Bad c =
-    let a = c.args in
-    found_bad a.s.now a.at _ c.read_number-found.ensures c.in-Bad.is
-
-pub returns-in-Short : goal.returns-in-Short
-returns-in-Short c =
-    let a = c.args in
-    found_short a.s.now a.at _ c.read_number-found.ensures c.in-Short.is
+pub returns : goal.returns
+returns c = found_number c.args.s.now c.args.at _ c.in_ok-found.ensures

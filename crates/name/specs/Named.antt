@@ -1,10 +1,11 @@
--- What is asked of a stored name: its length is judged (1) before any byte of it, and its bytes (2) before its end is missed (6).
-use Rattle.std.specs.Prelude.{ℕ, cond, ltb, leb}
-use Rattle.terms.specs.Refusals.{too_long, not_ascii}
+-- What is asked of a stored name: its length is judged before any byte of it, and its bytes before its end is missed.
+use Rattle.std.specs.Prelude.{ℕ, cond, ltb, leb, Option, Some, None}
+use Rattle.terms.specs.declared.Fault.{Fault}
+use Rattle.terms.specs.declared.Fault.TheVariants.{TooLong, NotAscii}
 use Rattle.terms.specs.Limits.{word_limit}
 
-abbrev pub name_length : ℕ → ℕ
-name_length n = cond (ltb word_limit n) too_long 0
+abbrev pub name_length : ℕ → Option Fault
+name_length n = cond (ltb word_limit n) (Some TooLong) None
 
-abbrev pub name_byte : ℕ → ℕ
-name_byte b = cond (leb 128 b) not_ascii 0
+abbrev pub name_byte : ℕ → Option Fault
+name_byte b = cond (leb 128 b) (Some NotAscii) None

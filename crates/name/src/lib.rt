@@ -1,5 +1,4 @@
-// A stored name, read at any place. A fault is document 02's number: 1 and 2 for a name that the encoder refuses, 5 a number in a bad form, 6
-// the book ends inside it.
+// A stored name, read at any place. Its faults: a name that the encoder refuses, a number in a bad form, the book ends inside it.
 #![tactic(auto)]
 
 ghost use Rattle.std.specs.Prelude.{◌≡◌, ◌≤◌, length, drop};
@@ -8,43 +7,42 @@ ghost use Rattle.fields.specs.Told.{part_at, bytes_at};
 ghost use Rattle.name.specs.Named.{name_length, name_byte};
 
 use ascii::is_ascii;
-use fields::{Part, Value};
-use terms::{NOT_ASCII, TOO_LONG, WORD_LIMIT};
+use fields::Field;
+use slices::Span;
+use terms::{Fault, WORD_LIMIT};
 
-// The fault that a bad byte of a name shows, or 0. Which byte it is does not matter, so the encoder's wide test serves.
-fn name_fault(w: &[u8]) -> u8
+// The fault that a bad byte of a name shows. Which byte it is does not matter, so the encoder's wide test serves.
+fn name_fault(w: &[u8]) -> Option<Fault>
     ensures { result ≡ fault_in name_byte w.now }
 {
-    if is_ascii(w) { 0 } else { NOT_ASCII }
+    if is_ascii(w) {
+        None
+    } else {
+        Some(Fault::NotAscii)
+    }
 }
 
 // The bytes of a name: a bad one is met before the end of the book.
-fn name_bytes(s: &[u8], start: usize, len: usize) -> Part
+fn name_bytes(s: &[u8], start: usize, len: usize) -> Result<Field<Span>, Fault>
     requires { start ≤ length s.now }
     ensures { result ≡ bytes_at start (read_bytes name_byte len (drop start s.now)) }
 {
-    let there = slices::least(len, s.len() - start);
+    let there = len.min(s.len() - start);
     let end = start + there;
-    let fault = name_fault(&s[start..end]);
-    if fault != 0 {
-        return Part::Fault(fault);
+    match name_fault(&s[start..end]) {
+        None => fields::bytes_at(s, start, len),
+        Some(fault) => Err(fault),
     }
-    fields::bytes_at(s, start, len)
 }
 
 // Its length is judged before any byte of it.
-pub fn name_at(s: &[u8], at: usize) -> Part
+pub fn name_at(s: &[u8], at: usize) -> Result<Field<Span>, Fault>
     ensures { result ≡ part_at at (read_text name_length name_byte (drop at s.now)) }
 {
-    let long = fields::number_at(s, at);
-    match long {
-        Value::At { value, next } => {
-            let len = value as usize;
-            if WORD_LIMIT < len {
-                return Part::Fault(TOO_LONG);
-            }
-            name_bytes(s, next, len)
-        }
-        Value::Fault(f) => Part::Fault(f),
+    let long = fields::number_at(s, at)?;
+    let len = long.value as usize;
+    if WORD_LIMIT < len {
+        return Err(Fault::TooLong);
     }
+    name_bytes(s, long.next, len)
 }

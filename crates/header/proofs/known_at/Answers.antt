@@ -1,21 +1,23 @@
 -- `header::known_at` meets its contract.
-use mathlib.Core.Path.{sym, ◌∙◌}
+use mathlib.Core.Path.{sym}
 use lib.ListN.{drop}
+use Rattle.std.proofs.lemmas.Result.{err_from_is_err_and}
 use Rattle.header.specs.Head.{known}
 use Rattle.fields.proofs.Told.{value_kept, value_refused, value_passed}
 use Rattle.header.proofs.known_at.Goals as goal
 
-pub returns-then-fault-ne0 : goal.returns-then-fault-ne0
-returns-then-fault-ne0 c =
+pub returns-in_err-found : goal.returns-in_err-found
+returns-in_err-found c =
     let a = c.args in
-    value_refused (known a.least a.most) (drop a.at a.s.now) a.at _ _ _ (sym c.number_at-found.ensures ∙ c.in-At.is) (sym c.known_fault-fault.ensures) c.if-fault-ne0.true
+    let p = err_from_is_err_and c.from_residual.result c.from_residual.ensures.1 in
+    rw (p.1, p.2) (value_passed (known a.least a.most) (drop a.at a.s.now) a.at _ (sym c.in_err-found.ensures))
 
-pub returns-else-fault-ne0 : goal.returns-else-fault-ne0
-returns-else-fault-ne0 c =
+pub returns-in-None : goal.returns-in-None
+returns-in-None c =
     let a = c.args in
-    value_kept (known a.least a.most) (drop a.at a.s.now) a.at _ _ (sym c.number_at-found.ensures ∙ c.in-At.is) (sym c.known_fault-fault.ensures ∙ c.if-fault-ne0.false)
+    value_kept (known a.least a.most) (drop a.at a.s.now) a.at _ (sym c.in_ok-found.ensures) (sym c.in-None.ensures)
 
-pub returns-in-Fault : goal.returns-in-Fault
-returns-in-Fault c =
+pub returns-in-Some : goal.returns-in-Some
+returns-in-Some c =
     let a = c.args in
-    value_passed (known a.least a.most) (drop a.at a.s.now) a.at _ (sym c.number_at-found.ensures ∙ c.in-Fault.is)
+    value_refused (known a.least a.most) (drop a.at a.s.now) a.at _ _ (sym c.in_ok-found.ensures) (sym c.in-Some.ensures)

@@ -1,25 +1,29 @@
 -- `header::open` meets its contract.
-use mathlib.Core.Path.{sym, ◌∙◌}
+use mathlib.Core.Path.{sym}
+use Rattle.std.proofs.lemmas.Result.{err_from_is_err_and}
 use Rattle.header.specs.Head.{formats}
 use Rattle.header.proofs.Opening.{opens, opens_third, opens_second, opens_first}
 use Rattle.header.proofs.open.Goals as goal
 
-pub returns-in-At-third : goal.returns-in-At-third
-returns-in-At-third c =
+pub returns-in_err-format : goal.returns-in_err-format
+returns-in_err-format c =
     let a = c.args in
-    opens (formats a.least) a.s.now _ _ _ _ _ _ (sym c.known_at-first.ensures ∙ c.in-At.is) (sym c.known_at-second.ensures ∙ c.in-At-second.is) (sym c.number_at-third.ensures ∙ c.in-At-third.is)
+    let p = err_from_is_err_and c.from_residual.result c.from_residual.ensures.1 in
+    rw (p.1, p.2) (opens_first (formats a.least) a.s.now _ (sym c.in_err-format.ensures))
 
-pub returns-in-Fault-third : goal.returns-in-Fault-third
-returns-in-Fault-third c =
+pub returns-in_err-edition : goal.returns-in_err-edition
+returns-in_err-edition c =
     let a = c.args in
-    opens_third (formats a.least) a.s.now _ _ _ _ _ (sym c.known_at-first.ensures ∙ c.in-At.is) (sym c.known_at-second.ensures ∙ c.in-At-second.is) (sym c.number_at-third.ensures ∙ c.in-Fault-third.is)
+    let p = err_from_is_err_and c.from_residual-in_err-edition.result c.from_residual-in_err-edition.ensures.1 in
+    rw (p.1, p.2) (opens_second (formats a.least) a.s.now _ (sym c.in_ok-format.ensures) _ (sym c.in_err-edition.ensures))
 
-pub returns-in-Fault-second : goal.returns-in-Fault-second
-returns-in-Fault-second c =
+pub returns-in_err-cut : goal.returns-in_err-cut
+returns-in_err-cut c =
     let a = c.args in
-    opens_second (formats a.least) a.s.now _ _ _ (sym c.known_at-first.ensures ∙ c.in-At.is) (sym c.known_at-second.ensures ∙ c.in-Fault-second.is)
+    let p = err_from_is_err_and c.from_residual-in_err-cut.result c.from_residual-in_err-cut.ensures.1 in
+    rw (p.1, p.2) (opens_third (formats a.least) a.s.now _ (sym c.in_ok-format.ensures) _ (sym c.in_ok-edition.ensures) _ (sym c.in_err-cut.ensures))
 
-pub returns-in-Fault : goal.returns-in-Fault
-returns-in-Fault c =
+pub returns : goal.returns
+returns c =
     let a = c.args in
-    opens_first (formats a.least) a.s.now _ (sym c.known_at-first.ensures ∙ c.in-Fault.is)
+    opens (formats a.least) a.s.now _ (sym c.in_ok-format.ensures) _ (sym c.in_ok-edition.ensures) _ (sym c.in_ok-cut.ensures)

@@ -1,13 +1,14 @@
 -- `name::name_bytes` meets its contract.
-use Rattle.name.proofs.Told.{name_refused, name_clean, name_part}
+use mathlib.Core.Path.{refl}
+use Rattle.name.proofs.Told.{name_refused, name_clean}
 use Rattle.name.proofs.name_bytes.Goals as goal
 
-pub returns-then-fault-ne0 : goal.returns-then-fault-ne0
-returns-then-fault-ne0 c =
+pub returns-in-None : goal.returns-in-None
+returns-in-None c =
     let a = c.args in
-    name_refused a.s.now a.start a.len _ _ c.least-there.ensures (name_part a.s.now a.start _ _ c.name_fault-fault.ensures) c.if-fault-ne0.true
+    name_clean a.s.now a.start a.len _ _ c.min-there.ensures c.in-None.ensures refl _ c.bytes_at.ensures
 
-pub returns : goal.returns
-returns c =
+pub returns-in-Some : goal.returns-in-Some
+returns-in-Some c =
     let a = c.args in
-    name_clean a.s.now a.start a.len _ _ c.least-there.ensures (name_part a.s.now a.start _ _ c.name_fault-fault.ensures) c.if-fault-ne0.false _ c.bytes_at.ensures
+    name_refused a.s.now a.start a.len _ _ c.min-there.ensures c.in-Some.ensures _ refl

@@ -7,6 +7,8 @@ use native.Mathlib.Omega.{arith}
 use borrow.Author.Tests.{leb-true, eqb-false}
 use lib.Dec.{eqb, leb}
 use lib.ListN.{length, take, length-append}
+use Rattle.std.specs.Prelude.{Some, None}
+use Rattle.terms.specs.declared.Fault.TheVariants.{NotKnown}
 use Rattle.fields.specs.Got.{Got, good, Both}
 use Rattle.fields.specs.Field.{number, text, read_number, FineNumber, FineText, any}
 use Rattle.fields.proofs.Law.{Law, same, as_far, Fines, both, renamed}
@@ -90,11 +92,11 @@ pub some_entry : (format : ℕ) (e : Entry) → 0 < length (entry_bytes format e
 unfolding entry_bytes
 some_entry format e = omega (arith, some_record e.body, length-append (kind_bytes format e.kind) (record_bytes e.body))
 
-pub is_kind : (v : ℕ) → kinds v ≡ 0 → v ≤ 1
+pub is_kind : (v : ℕ) → kinds v ≡ None → v ≤ 1
 is_kind v e = go (leb v 1) refl e
   where
-    go : (q : Bool) → leb v 1 ≡ q → ◌≡◌ {A = ℕ} (cond q 0 7) 0 → v ≤ 1
-    go false f e = absurd (omega arith)
+    go : (q : Bool) → leb v 1 ≡ q → cond q None (Some NotKnown) ≡ None → v ≤ 1
+    go false f e = let z : ◌≡◌ {A = ℕ} 0 1 = cc in absurd (omega arith)
     go true f e = leb-true v 1 f
 
 pub kind_low : (format k : ℕ) → FineKind format k → k ≤ 1

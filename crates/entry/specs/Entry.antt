@@ -3,10 +3,11 @@
 --
 -- Format 2 spells a kind before each record, 1 for a live one and 0 for a closed one. Format 1 spells none: all its records are live.
 --
--- Fields are read in their order. A number is judged when it is whole: its form (5) before its value (1, 7, 8). A name's length is
--- judged (1) before any byte of it, and its bytes (2) before its end is missed (6).
-use Rattle.std.specs.Prelude.{ℕ, ◌+◌, Bool, cond, List, [], ◌++◌, ltb, leb, eqb}
-use Rattle.terms.specs.Refusals.{not_known, not_above}
+-- Fields are read in their order. A number is judged when it is whole: its form before its value. A name's length is judged
+-- before any byte of it, and its bytes before its end is missed.
+use Rattle.std.specs.Prelude.{ℕ, ◌+◌, Bool, cond, List, [], ◌++◌, ltb, leb, eqb, Option, Some, None}
+use Rattle.terms.specs.declared.Fault.{Fault}
+use Rattle.terms.specs.declared.Fault.TheVariants.{NotKnown, NotAbove}
 use Rattle.fields.specs.Got.{read_both, mapped, Both, Got, good}
 use Rattle.fields.specs.Field.{number, text, read_number, read_text, any}
 use Rattle.name.specs.Named.{name_length, name_byte}
@@ -32,12 +33,12 @@ kind_bytes format k = cond (eqb format 1) [] (number k)
 unfoldable pub entry_bytes : ℕ → Entry → List ℕ
 entry_bytes format e = kind_bytes format e.kind ++ record_bytes e.body
 
-abbrev pub kinds : ℕ → ℕ
-kinds v = cond (leb v 1) 0 not_known
+abbrev pub kinds : ℕ → Option Fault
+kinds v = cond (leb v 1) None (Some NotKnown)
 
 -- a station, which must be at least `floor`
-abbrev pub rising : ℕ → ℕ → ℕ
-rising floor v = cond (ltb v floor) not_above 0
+abbrev pub rising : ℕ → ℕ → Option Fault
+rising floor v = cond (ltb v floor) (Some NotAbove) None
 
 abbrev pub Texts : Type 0
 Texts = Both (List ℕ) (Both (List ℕ) (List ℕ))

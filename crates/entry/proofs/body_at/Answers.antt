@@ -1,30 +1,34 @@
 -- `entry::body_at` meets its contract.
-use mathlib.Core.Path.{sym, ◌∙◌}
+use mathlib.Core.Path.{sym}
 use native.Mathlib.Omega.{arith}
+use Rattle.std.proofs.lemmas.Result.{err_from_is_err_and}
 use Rattle.entry.proofs.Told.{a_record, codes_bad, name_bad, station_bad, station_small}
 use Rattle.entry.proofs.body_at.Goals as goal
+
+pub returns-in_err-station : goal.returns-in_err-station
+returns-in_err-station c =
+    let a = c.args in
+    let p = err_from_is_err_and c.from_residual.result c.from_residual.ensures.1 in
+    rw (p.1, p.2) (station_bad a.s.now a.at a.kind a.floor _ (sym c.in_err-station.ensures))
+
+pub returns-in_err-name : goal.returns-in_err-name
+returns-in_err-name c =
+    let a = c.args in
+    let p = err_from_is_err_and c.from_residual-in_err-name.result c.from_residual-in_err-name.ensures.1 in
+    rw (p.1, p.2) (name_bad a.s.now a.at a.kind a.floor _ (sym c.in_ok-station.ensures) _ (sym c.in_err-name.ensures))
+
+pub returns-in_err-codes : goal.returns-in_err-codes
+returns-in_err-codes c =
+    let a = c.args in
+    let p = err_from_is_err_and c.from_residual-in_err-codes.result c.from_residual-in_err-codes.ensures.1 in
+    rw (p.1, p.2) (codes_bad a.s.now a.at a.kind a.floor _ (sym c.in_ok-station.ensures) _ (sym c.in_ok-name.ensures) _ (sym c.in_err-codes.ensures))
 
 pub overflow_add-result : goal.overflow_add-result
 overflow_add-result c =
     let a = c.args in
-    omega (arith, station_small a.s.now a.at a.kind a.floor _ _ (sym c.station_at-first.ensures ∙ c.in-At.is))
+    omega (arith, station_small a.s.now a.at a.kind a.floor _ (sym c.in_ok-station.ensures))
 
-pub returns-in-At-third : goal.returns-in-At-third
-returns-in-At-third c =
+pub returns : goal.returns
+returns c =
     let a = c.args in
-    a_record a.s.now a.at a.kind a.floor _ _ _ _ _ _ _ (sym c.station_at-first.ensures ∙ c.in-At.is) (sym c.name_at-second.ensures ∙ c.in-At-second.is) (sym c.codes_at-third.ensures ∙ c.in-At-third.is)
-
-pub returns-in-Fault-third : goal.returns-in-Fault-third
-returns-in-Fault-third c =
-    let a = c.args in
-    codes_bad a.s.now a.at a.kind a.floor _ _ _ _ _ (sym c.station_at-first.ensures ∙ c.in-At.is) (sym c.name_at-second.ensures ∙ c.in-At-second.is) (sym c.codes_at-third.ensures ∙ c.in-Fault-third.is)
-
-pub returns-in-Fault-second : goal.returns-in-Fault-second
-returns-in-Fault-second c =
-    let a = c.args in
-    name_bad a.s.now a.at a.kind a.floor _ _ _ (sym c.station_at-first.ensures ∙ c.in-At.is) (sym c.name_at-second.ensures ∙ c.in-Fault-second.is)
-
-pub returns-in-Fault : goal.returns-in-Fault
-returns-in-Fault c =
-    let a = c.args in
-    station_bad a.s.now a.at a.kind a.floor _ (sym c.station_at-first.ensures ∙ c.in-Fault.is)
+    a_record a.s.now a.at a.kind a.floor _ (sym c.in_ok-station.ensures) _ (sym c.in_ok-name.ensures) _ (sym c.in_ok-codes.ensures)

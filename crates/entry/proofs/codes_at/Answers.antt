@@ -1,19 +1,22 @@
 -- `entry::codes_at` meets its contract.
-use mathlib.Core.Path.{sym, ◌∙◌}
+use mathlib.Core.Path.{sym}
+use Rattle.std.proofs.lemmas.Result.{err_from_is_err_and}
 use Rattle.entry.proofs.Told.{both_codes, second_code, first_code}
 use Rattle.entry.proofs.codes_at.Goals as goal
 
-pub returns-in-At-second : goal.returns-in-At-second
-returns-in-At-second c =
+pub returns-in_err-primary : goal.returns-in_err-primary
+returns-in_err-primary c =
     let a = c.args in
-    both_codes a.s.now a.at _ _ _ _ (sym c.text_at-first.ensures ∙ c.in-At.is) (sym c.text_at-second.ensures ∙ c.in-At-second.is)
+    let p = err_from_is_err_and c.from_residual.result c.from_residual.ensures.1 in
+    rw (p.1, p.2) (first_code a.s.now a.at _ (sym c.in_err-primary.ensures))
 
-pub returns-in-Fault-second : goal.returns-in-Fault-second
-returns-in-Fault-second c =
+pub returns-in_err-alternate : goal.returns-in_err-alternate
+returns-in_err-alternate c =
     let a = c.args in
-    second_code a.s.now a.at _ _ _ (sym c.text_at-first.ensures ∙ c.in-At.is) (sym c.text_at-second.ensures ∙ c.in-Fault-second.is)
+    let p = err_from_is_err_and c.from_residual-in_err-alternate.result c.from_residual-in_err-alternate.ensures.1 in
+    rw (p.1, p.2) (second_code a.s.now a.at _ (sym c.in_ok-primary.ensures) _ (sym c.in_err-alternate.ensures))
 
-pub returns-in-Fault : goal.returns-in-Fault
-returns-in-Fault c =
+pub returns : goal.returns
+returns c =
     let a = c.args in
-    first_code a.s.now a.at _ (sym c.text_at-first.ensures ∙ c.in-Fault.is)
+    both_codes a.s.now a.at _ (sym c.in_ok-primary.ensures) _ (sym c.in_ok-alternate.ensures)

@@ -1,9 +1,10 @@
 -- `entry::kind_at` meets its contract.
-use Prim.Native.Nat.{◌+◌}
+use Prim.Native.Nat.{ℕ, ◌+◌}
 use mathlib.Core.Path.{sym, ap, ◌∙◌, ◌≡◌}
 use native.Mathlib.Omega.{arith}
 use lib.ListN.{drop}
-use Rattle.fields.specs.declared.Value.TheVariants as value
+use Rattle.std.specs.Prelude.{Ok}
+use Rattle.std.proofs.lemmas.Result.{err_from_is_err_and}
 use Rattle.fields.specs.Told.{value_at}
 use Rattle.fields.proofs.Told.{value_kept, value_refused, value_passed}
 use Rattle.entry.specs.Entry.{kinds}
@@ -14,22 +15,23 @@ pub returns-then-format-eq1 : goal.returns-then-format-eq1
 returns-then-format-eq1 c =
     let a = c.args in
     let z : a.at ≡ a.at + 0 = omega arith in
-    ap (value.At 1) z ∙ sym (ap (value_at a.at) (kind_unspelt a.format (drop a.at a.s.now) c.if-format-eq1.true))
+    ap (λ (n : ℕ). Ok (record { value = 1; next = n })) z ∙ sym (ap (value_at a.at) (kind_unspelt a.format (drop a.at a.s.now) c.if-format-eq1.true))
 
-pub returns-then-value-gt1 : goal.returns-then-value-gt1
-returns-then-value-gt1 c =
+pub returns-in_err-found : goal.returns-in_err-found
+returns-in_err-found c =
     let a = c.args in
-    value_refused kinds (drop a.at a.s.now) a.at _ _ 7 (sym c.number_at-found.ensures ∙ c.in-At.is) (kind_above _ c.if-value-gt1.true) (λ z. omega arith)
+    let p = err_from_is_err_and c.from_residual.result c.from_residual.ensures.1 in
+    rw (p.1, p.2) (value_passed kinds (drop a.at a.s.now) a.at _ (sym c.in_err-found.ensures)
+    ∙ sym (ap (value_at a.at) (kind_spelt a.format (drop a.at a.s.now) c.if-format-eq1.false)))
+
+pub returns-then-found-gt1 : goal.returns-then-found-gt1
+returns-then-found-gt1 c =
+    let a = c.args in
+    value_refused kinds (drop a.at a.s.now) a.at _ _ (sym c.in_ok-found.ensures) (kind_above _ c.if-found-gt1.true)
     ∙ sym (ap (value_at a.at) (kind_spelt a.format (drop a.at a.s.now) c.if-format-eq1.false))
 
-pub returns-else-value-gt1 : goal.returns-else-value-gt1
-returns-else-value-gt1 c =
+pub returns : goal.returns
+returns c =
     let a = c.args in
-    value_kept kinds (drop a.at a.s.now) a.at _ _ (sym c.number_at-found.ensures ∙ c.in-At.is) (kind_good _ c.if-value-gt1.false)
-    ∙ sym (ap (value_at a.at) (kind_spelt a.format (drop a.at a.s.now) c.if-format-eq1.false))
-
-pub returns-in-Fault : goal.returns-in-Fault
-returns-in-Fault c =
-    let a = c.args in
-    value_passed kinds (drop a.at a.s.now) a.at _ (sym c.number_at-found.ensures ∙ c.in-Fault.is)
+    value_kept kinds (drop a.at a.s.now) a.at _ (sym c.in_ok-found.ensures) (kind_good _ c.if-found-gt1.false)
     ∙ sym (ap (value_at a.at) (kind_spelt a.format (drop a.at a.s.now) c.if-format-eq1.false))

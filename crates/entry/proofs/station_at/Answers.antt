@@ -1,23 +1,24 @@
 -- `entry::station_at` meets its contract.
-use mathlib.Core.Path.{sym, ◌∙◌}
-use native.Mathlib.Omega.{arith}
+use mathlib.Core.Path.{sym}
 use lib.ListN.{drop}
+use Rattle.std.proofs.lemmas.Result.{err_from_is_err_and}
 use Rattle.entry.specs.Entry.{rising}
 use Rattle.entry.proofs.Told.{rising_below, rising_good}
 use Rattle.fields.proofs.Told.{value_kept, value_refused, value_passed}
 use Rattle.entry.proofs.station_at.Goals as goal
 
-pub returns-then-value-floor : goal.returns-then-value-floor
-returns-then-value-floor c =
+pub returns-in_err-found : goal.returns-in_err-found
+returns-in_err-found c =
     let a = c.args in
-    value_refused (rising a.floor) (drop a.at a.s.now) a.at _ _ 8 (sym c.number_at-found.ensures ∙ c.in-At.is) (rising_below a.floor _ c.if-value-floor.true) (λ z. omega arith)
+    let p = err_from_is_err_and c.from_residual.result c.from_residual.ensures.1 in
+    rw (p.1, p.2) (value_passed (rising a.floor) (drop a.at a.s.now) a.at _ (sym c.in_err-found.ensures))
 
-pub returns-else-value-floor : goal.returns-else-value-floor
-returns-else-value-floor c =
+pub returns-then-found-floor : goal.returns-then-found-floor
+returns-then-found-floor c =
     let a = c.args in
-    value_kept (rising a.floor) (drop a.at a.s.now) a.at _ _ (sym c.number_at-found.ensures ∙ c.in-At.is) (rising_good a.floor _ c.if-value-floor.false)
+    value_refused (rising a.floor) (drop a.at a.s.now) a.at _ _ (sym c.in_ok-found.ensures) (rising_below a.floor _ c.if-found-floor.true)
 
-pub returns-in-Fault : goal.returns-in-Fault
-returns-in-Fault c =
+pub returns : goal.returns
+returns c =
     let a = c.args in
-    value_passed (rising a.floor) (drop a.at a.s.now) a.at _ (sym c.number_at-found.ensures ∙ c.in-Fault.is)
+    value_kept (rising a.floor) (drop a.at a.s.now) a.at _ (sym c.in_ok-found.ensures) (rising_good a.floor _ c.if-found-floor.false)

@@ -2,29 +2,25 @@
 use Prim.Native.Nat.{ℕ, zero, suc, ◌+◌, ◌≤◌, ◌<◌}
 use mathlib.Core.Path.{◌≡◌, refl, sym, ◌∙◌}
 use mathlib.Core.List.{List, [], ◌∷◌}
-use mathlib.Core.Bool.{Bool, true, false, cond, ◌||◌, or_assoc, or-false}
+use mathlib.Core.Bool.{Bool, true, false, not, cond, ◌||◌}
 use native.Mathlib.Omega.{arith}
-use native.Mathlib.Numerals.{add-one}
-use borrow.Author.Tests.{le-leb, lt-leb, leb-true, leb-false, lt-ltb, not-true, not-false, ltb-true, ltb-false}
+use borrow.Author.Tests.{leb-true, leb-false, lt-ltb, not-true, not-false, ltb-true, ltb-false}
 use lib.Dec.{ltb, leb, leb-suc-suc}
-use lib.ListN.{length, get_or, drop, drop_of_length-le}
-use lib.Seq.{drop-cons}
+use lib.ListN.{length, get_or}
+use Rattle.std.specs.List.{position_or_len, position}
+use Rattle.std.specs.Option.{unwrap_or}
+use Rattle.std.proofs.Common.{Some, None}
 use Rattle.ascii.specs.High.{any_high, is_ascii, first_high, First}
 
-module _ (w : List ℕ) (i : ℕ) (inside : i < length w) where
-  -- a high byte is found, and any other is passed
-  pub high_here : 128 ≤ get_or w i 0 → first_high (drop i w) ≡ 0
-  high_here h = rw (drop-cons w i 0 inside, le-leb 128 (get_or w i 0) h)
-
-  pub high_behind : get_or w i 0 < 128 → first_high (drop i w) ≡ suc (first_high (drop (i + 1) w))
-  high_behind h = rw (add-one, drop-cons w i 0 inside, lt-leb 128 (get_or w i 0) h)
-
-  -- a byte's test joins those before it
-  pub high_joins : (high : Bool) → (high || any_high (drop i w)) ≡ ((high || leb 128 (get_or w i 0)) || any_high (drop (i + 1) w))
-  high_joins high = rw (add-one, drop-cons w i 0 inside) (sym (or_assoc high (leb 128 (get_or w i 0)) (any_high (drop (suc i) w))))
-
-pub high_whole : (w : List ℕ) (i : ℕ) (high : Bool) → length w ≤ i → (high || any_high (drop i w)) ≡ any_high w → high ≡ any_high w
-high_whole w i high h e = sym (or-false high) ∙ (rw (drop_of_length-le w h) at e)
+-- what a search for the first gives
+position_first : (w : List ℕ) → position_or_len (λ b. leb 128 b) w ≡ first_high w
+position_first [] = refl
+position_first (b ∷ w) = go (leb 128 b) (position_first w)
+  where
+    go : (q : Bool) → position_or_len (λ b. leb 128 b) w ≡ first_high w
+        → cond (not q) (1 + position_or_len (λ b. leb 128 b) w) 0 ≡ cond q 0 (suc (first_high w))
+    go true h = refl
+    go false h = omega arith
 
 -- some byte is high exactly where the first one's place lies in the word
 pub any_is_first : (w : List ℕ) → any_high w ≡ ltb (first_high w) (length w)
@@ -67,3 +63,10 @@ no_high w low = go (ltb (first_high w) (length w)) refl
         let h : first_high w < length w = ltb-true _ _ t in
         absurd (omega (arith, (first_high_lem w).here h, low (first_high w) h))
     go false t = ltb-false _ _ t
+
+pub position_high : (w : List ℕ) → unwrap_or (position (λ b. leb 128 b) w) (length w) ≡ first_high w
+position_high w = rw (position_first w) (go (ltb (first_high w) (length w)) refl)
+  where
+    go : (q : Bool) → ltb (first_high w) (length w) ≡ q → unwrap_or (cond q (Some (first_high w)) None) (length w) ≡ first_high w
+    go true e = refl
+    go false e = omega (arith, ltb-false _ _ e, (first_high_lem w).within)

@@ -1,11 +1,11 @@
 -- Whether a word is ASCII, and the place of its first other byte, after document 01's "the place of the first". proofs/High.antt shows that
 -- the place is the first.
-use Rattle.std.specs.Prelude.{ℕ, suc, ◌≤◌, ◌<◌, List, [], ◌∷◌, Bool, false, not, cond, ◌||◌, leb, length, get_or}
+use Rattle.std.specs.Prelude.{ℕ, suc, ◌≤◌, ◌<◌, List, [], ◌∷◌, Bool, not, cond, leb, length, get_or}
+use Rattle.std.specs.List.{list_any}
 
 -- some byte is 128 or more
 abbrev pub any_high : List ℕ → Bool
-any_high [] = false
-any_high (b ∷ w) = leb 128 b || any_high w
+any_high w = list_any (λ b. leb 128 b) w
 
 abbrev pub is_ascii : List ℕ → Bool
 is_ascii w = not (any_high w)

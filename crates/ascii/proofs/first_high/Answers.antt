@@ -1,17 +1,14 @@
--- `ascii::first_high` meets its contract, since the bytes passed and the place in what is left make the place.
-use Prim.Native.Nat.{◌-◌}
-use mathlib.Core.Path.{ap}
-use native.Mathlib.Omega.{arith}
-use lib.ListN.{drop_of_length-le}
-use Rattle.ascii.proofs.High.{high_here, high_behind}
-use Rattle.ascii.specs.High.{first_high}
+-- `ascii::first_high` meets its contract.
+use Rattle.std.proofs.Common.{rules, tests, ◌≡◌, leb}
+use Rattle.std.proofs.lemmas.Iterator.{YieldsList-from_slice}
+use Rattle.std.proofs.lemmas.Iterator.Search.{position_from_yields_List}
+use Rattle.std.specs.List.{position}
+use Rattle.ascii.proofs.High.{position_high}
 use Rattle.ascii.proofs.first_high.Goals as goal
 
-pub returns-then-w-i-ge128 : goal.returns-then-w-i-ge128
-returns-then-w-i-ge128 c = omega (arith, high_here c.args.w.now c.loop-i.i c.loop-i-test.true c.if-w-i-ge128.true)
-
-pub loop-i-preserved : goal.loop-i-preserved
-loop-i-preserved c = omega (arith, high_behind c.args.w.now c.loop-i.i c.loop-i-test.true c.if-w-i-ge128.false)
-
 pub returns : goal.returns
-returns c = omega (arith, ap first_high (drop_of_length-le c.args.w.now c.loop-i-test.false))
+returns c =
+    let e : c.position.result ≡ position (λ b. leb 128 b) c.args.w.now =
+    position_from_yields_List (λ b. leb 128 b) _ _ c.position.result c.position.ensures.ran (YieldsList-from_slice c.args.w.now cc) (λ x b q k. search (rules, tests))
+    in
+    cc (e, position_high c.args.w.now)

@@ -7,17 +7,17 @@ use native.Mathlib.Omega.{arith}
 use borrow.Author.Tests.{lt-ltb, le-ltb}
 use lib.ListN.{length}
 use Rattle.tally.specs.declared.Tally.{Tally}
-use Rattle.walk.specs.Walk.{tally_of, filled, Coded}
+use Rattle.walk.specs.Walk.{tally_of, filled}
 use Rattle.walk.specs.Word.{limited_of}
 use Rattle.terms.specs.declared.Edition.{Edition}
 use Rattle.terms.specs.Limits.{Limit}
-use Rattle.answers.specs.declared.Answer.{Answer}
-use Rattle.answers.specs.declared.Answer.TheVariants.{TooLong, NotAscii, PrimaryShort, AlternateShort}
-use Rattle.answers.specs.declared.Answer.TheVariants
+use Rattle.std.specs.Prelude.{Ok, Err}
+use Rattle.answers.specs.declared.Coded.{Coded}
+use Rattle.answers.specs.declared.Refusal.TheVariants.{TooLong, NotAscii, PrimaryShort, AlternateShort}
 use Rattle.trimming.specs.Trim.{trimmed}
 use Rattle.ascii.specs.High.{is_ascii, first_high}
 use Rattle.terms.specs.Limits.{word_limit}
-use Rattle.encoder.specs.Encode.{number_of, primary_of, alternate_of, visits_under, coded_of, answer_of, left_by, Encoded}
+use Rattle.encoder.specs.Encode.{Answer, primary_of, alternate_of, visits_under, coded_of, answer_of, left_by, Encoded}
 use Rattle.needs.specs.Needs.{need_of, cap_of}
 use Rattle.encoder.specs.Table.{Given}
 use Rattle.encoder.proofs.Given.{answer_given}
@@ -30,25 +30,25 @@ module _ (ed : Edition) (l : Limit) (w p a : List ℕ) where
       subst (λ (q : Answer). Given (length w) (first_high w) (length p) (length a) (need_of l (length (trimmed w))) q) e (answer_given ed l w (length p) (length a))
 
   -- the buffers are as the answer r leaves them
-  settled : (r : Answer) → answer_of ed l w (length p) (length a) ≡ r → Encoded ed l w p a r (left_by (number_of r) (primary_of ed l (trimmed w)) p) (left_by (number_of r) (alternate_of ed l (trimmed w)) a)
+  settled : (r : Answer) → answer_of ed l w (length p) (length a) ≡ r → Encoded ed l w p a r (left_by r (primary_of ed l (trimmed w)) p) (left_by r (alternate_of ed l (trimmed w)) a)
   settled r e = record { given = given_for r e; answer = sym e; primary = refl; alternate = refl }
 
-  pub too_long_lem : word_limit < length w → Encoded ed l w p a TooLong p a
-  too_long_lem h = settled TooLong (rw (lt-ltb word_limit (length w) h))
+  pub too_long_lem : word_limit < length w → Encoded ed l w p a (Err TooLong) p a
+  too_long_lem h = settled (Err TooLong) (rw (lt-ltb word_limit (length w) h))
 
   module _ (fits : length w ≤ word_limit) where
-    pub not_ascii_lem : (high : ℕ) → high ≡ first_high w → is_ascii w ≡ false → Encoded ed l w p a (NotAscii high) p a
-    not_ascii_lem high e h = settled (NotAscii high) (rw (le-ltb word_limit (length w) fits, ascii_none w h, ← e))
+    pub not_ascii_lem : (high : ℕ) → high ≡ first_high w → is_ascii w ≡ false → Encoded ed l w p a (Err (NotAscii high)) p a
+    not_ascii_lem high e h = settled (Err (NotAscii high)) (rw (le-ltb word_limit (length w) fits, ascii_none w h, ← e))
 
     module _ (ascii : is_ascii w ≡ true) (need : ℕ) (n : need ≡ need_of l (length (trimmed w))) where
-      pub primary_short : length p < need → Encoded ed l w p a PrimaryShort p a
+      pub primary_short : length p < need → Encoded ed l w p a (Err PrimaryShort) p a
       primary_short h =
-          settled PrimaryShort (rw (le-ltb word_limit (length w) fits, ascii_all w ascii, ← n, lt-ltb (length p) need h))
+          settled (Err PrimaryShort) (rw (le-ltb word_limit (length w) fits, ascii_all w ascii, ← n, lt-ltb (length p) need h))
 
       module _ (room : need ≤ length p) where
-        pub alternate_short : length a < need → Encoded ed l w p a AlternateShort p a
+        pub alternate_short : length a < need → Encoded ed l w p a (Err AlternateShort) p a
         alternate_short h =
-            settled AlternateShort
+            settled (Err AlternateShort)
             (rw (le-ltb word_limit (length w) fits, ascii_all w ascii, ← n, le-ltb (length p) need room, lt-ltb (length a) need h))
 
         module _ (room' : need ≤ length a) (cap : ℕ) (part : List ℕ) (c : cap ≡ cap_of l (length (trimmed w))) (t : part ≡ trimmed w) where
@@ -66,16 +66,16 @@ module _ (ed : Edition) (l : Limit) (w p a : List ℕ) where
               (rw primary_is (omega (arith, primary_fits ed (trimmed w) l)), rw alternate_is (omega (arith, alternate_fits ed (trimmed w) l)))
 
           pub coded : (r : Tally) (p' a' : List ℕ) → r ≡ tally_of (limited_of ed cap part) → p' ≡ filled (limited_of ed cap part).primary p → a' ≡ filled (limited_of ed cap part).alternate a
-              → Encoded ed l w p a (TheVariants.Coded r.primary r.alternate r.visits) p' a'
+              → Encoded ed l w p a (Ok (record { primary = r.primary; alternate = r.alternate; visits = r.visits })) p' a'
           coded r p' a' tr tp ta =
-              let x : answer_of ed l w (length p) (length a) ≡ coded_of ed l (trimmed w) =
+              let x : answer_of ed l w (length p) (length a) ≡ Ok (coded_of ed l (trimmed w)) =
               rw (le-ltb word_limit (length w) fits, ascii_all w ascii, ← n, le-ltb (length p) need room, le-ltb (length a) need room')
               in
               let y : tally_of (limited_of ed cap part) ≡ record { primary = length (primary_of ed l (trimmed w)); alternate = length (alternate_of ed l (trimmed w)); visits = visits_under ed l (trimmed w) } =
               λ i. record { primary = length (primary_is i); alternate = length (alternate_is i); visits = visits_are i }
               in
-              let z : TheVariants.Coded r.primary r.alternate r.visits ≡ answer_of ed l w (length p) (length a) =
-              ap (λ (q : Tally). TheVariants.Coded q.primary q.alternate q.visits) (tr ∙ y) ∙ sym x
+              let z : Ok (record { primary = r.primary; alternate = r.alternate; visits = r.visits }) ≡ answer_of ed l w (length p) (length a) =
+              ap (λ (q : Tally). Ok (record { primary = q.primary; alternate = q.alternate; visits = q.visits })) (tr ∙ y) ∙ sym x
               in
               record {
                 given = given_for _ (sym z);

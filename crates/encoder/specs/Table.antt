@@ -2,9 +2,8 @@
 -- first high byte is at `high` (n where it has none), buffers of p and a bytes, and what is needed. It is part of
 -- what `encode` promises (Encode.antt); theorem `unchanged` of crates/demands/proofs/Table.antt: a refusal leaves the buffers untouched.
 use Rattle.std.specs.Prelude.{ℕ, ◌≤◌, ◌<◌, ◌≡◌, ◌↔◌}
-use Rattle.answers.specs.declared.Answer.{Answer}
 use Rattle.terms.specs.Limits.{word_limit}
-use Rattle.answers.specs.Answers.{number_of, place_of, primary_length, alternate_length, visit_count}
+use Rattle.answers.specs.Answers.{Answer, number_of, place_of, primary_length, alternate_length, visit_count}
 
 pub record Given (n high p a need : ℕ) (r : Answer) : Type 0 where
   pub one : (number_of r ≡ 1) ↔ (word_limit < n)

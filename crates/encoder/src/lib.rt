@@ -4,10 +4,10 @@
 ghost use Rattle.std.specs.Prelude.{◌≡◌, Some};
 ghost use Rattle.encoder.specs.Encode.{encoder_of, default_limit, Encoded};
 
-use answers::Answer;
+use answers::{Answer, Coded, Refusal};
 use terms::{Edition, Limit, WORD_LIMIT};
 
-#[derive(Clone, Copy)]
+#[derive(Clone, Copy, Debug, PartialEq, Eq)]
 pub struct Encoder {
     pub limit: Limit,
     pub edition: Edition,
@@ -42,27 +42,27 @@ impl Encoder {
         let limit = self.limit;
         let edition = self.edition;
         if WORD_LIMIT < word.len() {
-            return Answer::TooLong;
+            return Err(Refusal::TooLong);
         }
         if !ascii::is_ascii(word) {
-            return Answer::NotAscii(ascii::first_high(word));
+            return Err(Refusal::NotAscii(ascii::first_high(word)));
         }
         let from = trimming::front(word);
         let len = trimming::back(&word[from..]);
         let end = from + len;
         let need = needs::need_of(limit, len);
         if primary.len() < need {
-            return Answer::PrimaryShort;
+            return Err(Refusal::PrimaryShort);
         }
         if alternate.len() < need {
-            return Answer::AlternateShort;
+            return Err(Refusal::AlternateShort);
         }
         let cap = needs::cap_of(limit, len);
         let tally = walk::walk(&word[from..end], edition, cap, primary, alternate);
-        Answer::Coded {
+        Ok(Coded {
             primary: tally.primary,
             alternate: tally.alternate,
             visits: tally.visits,
-        }
+        })
     }
 }

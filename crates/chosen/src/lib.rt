@@ -4,7 +4,7 @@
 ghost use Rattle.std.specs.Prelude.{◌≡◌};
 ghost use Rattle.chosen.specs.Chosen.{front_of, chosen_of};
 
-#[derive(Clone, Copy)]
+#[derive(Clone, Copy, Debug, PartialEq, Eq)]
 pub enum Choice {
     Primary,
     Alternate,
@@ -14,7 +14,7 @@ pub enum Choice {
 fn front_of(buf: &[u8], n: usize) -> &[u8]
     ensures { result.now ≡ front_of n buf.now }
 {
-    if n <= buf.len() { &buf[..n] } else { &buf[..0] }
+    buf.get(..n).unwrap_or(&[])
 }
 
 // The chosen code, as a part of the buffer it lies in.

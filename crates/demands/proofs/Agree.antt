@@ -16,10 +16,10 @@ use Rattle.word.specs.Mark.{slavo_germanic}
 use Rattle.word.specs.Start.{start_of}
 use Rattle.walk.specs.Word.{visits_of, rule_of}
 use Rattle.terms.specs.Limits.{Limit}
-use Rattle.std.specs.Prelude.{Some, None}
+use Rattle.std.specs.Prelude.{Some, None, Ok, Err}
 use Rattle.chosen.specs.declared.Choice.{Choice}
 use Rattle.chosen.specs.declared.Choice.TheVariants.{Primary, Alternate}
-use Rattle.answers.specs.declared.Answer.TheVariants.{Coded, TooLong, NotAscii, PrimaryShort, AlternateShort}
+use Rattle.answers.specs.declared.Refusal.TheVariants.{TooLong, NotAscii, PrimaryShort, AlternateShort}
 use Rattle.trimming.specs.Trim.{trimmed}
 use Rattle.ascii.specs.High.{first_high}
 use Rattle.terms.specs.Limits.{word_limit}
@@ -49,8 +49,8 @@ pub answer_agrees : (l : Limit) (w : List ℕ) (m n : ℕ) → dutch (trimmed w)
 unfolding primary_of alternate_of
 answer_agrees l w m n h =
     ap (λ (x : walk.Coded).
-    cond (ltb word_limit (length w)) TooLong
-    (cond (ltb (first_high w) (length w)) (NotAscii (first_high w))
-    (cond (ltb m (need_of l (length (trimmed w)))) PrimaryShort
-    (cond (ltb n (need_of l (length (trimmed w)))) AlternateShort
-    (Coded (length x.primary) (length x.alternate) x.visits))))) (walk_agrees l (trimmed w) h)
+    cond (ltb word_limit (length w)) (Err TooLong)
+    (cond (ltb (first_high w) (length w)) (Err (NotAscii (first_high w)))
+    (cond (ltb m (need_of l (length (trimmed w)))) (Err PrimaryShort)
+    (cond (ltb n (need_of l (length (trimmed w)))) (Err AlternateShort)
+    (Ok (record { primary = length x.primary; alternate = length x.alternate; visits = x.visits })))))) (walk_agrees l (trimmed w) h)

@@ -7,11 +7,11 @@ use borrow.Author.Tests.{le-ltb}
 use lib.ListN.{length}
 use Rattle.terms.specs.declared.Edition.{Edition}
 use Rattle.terms.specs.Limits.{Limit}
-use Rattle.answers.specs.declared.Answer.{Answer}
+use Rattle.std.specs.Prelude.{Ok}
 use Rattle.trimming.specs.Trim.{trimmed}
 use Rattle.ascii.specs.High.{first_high}
 use Rattle.terms.specs.Limits.{word_limit}
-use Rattle.encoder.specs.Encode.{number_of, primary_of, alternate_of, coded_of, answer_of, Encoded}
+use Rattle.encoder.specs.Encode.{Answer, number_of, primary_of, alternate_of, coded_of, answer_of, Encoded}
 use Rattle.needs.specs.Needs.{need_of}
 use Rattle.demands.specs.Demand2.{Taken, Accepted, Walked}
 use Rattle.ascii.proofs.High.{first_high_lem, no_high}
@@ -27,7 +27,7 @@ code_accepted {w = w} e h =
     record { taken = taken_by w g.0 g.1; primary = g.2; alternate = g.3 }
 
 module _ (ed : Edition) {l : Limit} {w p a : List ℕ} (x : Accepted l w p a) where
-  answer_coded : answer_of ed l w (length p) (length a) ≡ coded_of ed l (trimmed w)
+  answer_coded : answer_of ed l w (length p) (length a) ≡ Ok (coded_of ed l (trimmed w))
   answer_coded =
       rw (
         le-ltb word_limit (length w) x.taken.fits,

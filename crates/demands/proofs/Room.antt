@@ -7,10 +7,9 @@ use lib.ListN.{length}
 use Rattle.terms.specs.declared.Edition.{Edition}
 use Rattle.terms.specs.Limits.{Limit}
 use Rattle.std.specs.Prelude.{Some, None}
-use Rattle.answers.specs.declared.Answer.{Answer}
 use Rattle.trimming.specs.Trim.{trimmed}
 use Rattle.terms.specs.Limits.{word_limit}
-use Rattle.encoder.specs.Encode.{number_of, Encoded}
+use Rattle.encoder.specs.Encode.{Answer, number_of, Encoded}
 use Rattle.needs.specs.Needs.{need_of}
 use Rattle.trimming.proofs.Trim.{trimmed_length}
 

@@ -12,13 +12,8 @@ pub fn need_of(limit: Limit, t: usize) -> usize
     requires { t ≤ word_limit }
     ensures { result ≡ need_of limit t }
 {
-    if t == 0 {
-        return 0;
-    }
-    match limit {
-        None => 2 * t - 1,
-        Some(n) => { if n < 2 * t - 1 { n } else { 2 * t - 1 } }
-    }
+    let most = (2 * t).saturating_sub(1);
+    limit.map_or(most, |n| n.min(most))
 }
 
 // The limit that the walk is given: with none, more bytes than a code of t bytes has.
@@ -26,8 +21,5 @@ pub fn cap_of(limit: Limit, t: usize) -> usize
     requires { t ≤ word_limit }
     ensures { result ≡ cap_of limit t }
 {
-    match limit {
-        None => 2 * t,
-        Some(n) => n,
-    }
+    limit.unwrap_or(2 * t)
 }

@@ -1,33 +1,16 @@
--- From a kind and a record to a record with its kind, what was told of one, and those behind it.
+-- Records that read: one, and those behind it.
 use Prim.Native.Nat.{ℕ, ◌≤◌, ◌<◌}
 use mathlib.Core.Path.{◌≡◌, refl, sym, ◌∙◌}
 use mathlib.Core.List.{List, [], ◌∷◌}
 use native.Mathlib.Omega.{arith}
-use borrow.Author.Tests.{lt-ltb, le-ltb, ne_eqb}
 use lib.ListN.{length, drop}
+use Rattle.terms.specs.declared.Fault.{Fault}
 use Rattle.fields.specs.Got.{Got, good, bad, grown, read_all}
 use Rattle.fields.proofs.Law.{never, same}
-use Rattle.header.specs.declared.Cursor.{Cursor}
-use Rattle.entry.specs.declared.Step.{Step}
 use Rattle.entry.specs.Entry.{Entry, entry_bytes, read_entry, above}
-use Rattle.header.specs.Head.{unknown}
 use Rattle.book.specs.Book.{read_entries}
-use Rattle.entry.specs.Told.{step_at}
-use Rattle.book.specs.Told.{next_of}
 use Rattle.entry.proofs.Entry.{entry_law, some_entry}
 use Rattle.fields.proofs.All as all
-use Rattle.entry.specs.declared.Step.TheVariants as step
-
--- ---- the answer at a cursor
-module _ (s : List ℕ) (format edition : ℕ) (c : Cursor) (f : ℕ) (u : f ≡ unknown format edition) where
-  pub at_unknown : (f ≡ 0 → ⊥) → step.Fault f ≡ next_of s format edition c
-  at_unknown z = rw (← u, ne_eqb f 0 z)
-
-  pub at_end : f ≡ 0 → length s ≤ c.at → step.End ≡ next_of s format edition c
-  at_end z h = rw (← u, z, le-ltb c.at (length s) h)
-
-  pub at_record : f ≡ 0 → c.at < length s → (r : Step) → r ≡ step_at format c.at (read_entry format c.floor (drop c.at s)) → r ≡ next_of s format edition c
-  at_record z h r e = rw (← u, z, lt-ltb c.at (length s) h) e
 
 -- ---- records that read, behind the first
 pub record Behind (format : ℕ) (l : List ℕ) (e : Entry) (n : ℕ) (es : List Entry) : Type 0 where
@@ -48,7 +31,7 @@ behind format floor l e n es k p q =
     go (bad f) d h = never h
     go (good us m) d h = record { es' = us; m = m; is = d; all = sym (same h) }
 
-pub first_good : {B : Type 0} (format floor : ℕ) (l : List ℕ) (f : ℕ) (es : List Entry) (k : ℕ) → 0 < length l → read_entry format floor l ≡ bad f → read_entries format floor l ≡ good es k → B
+pub first_good : {B : Type 0} (format floor : ℕ) (l : List ℕ) (f : Fault) (es : List Entry) (k : ℕ) → 0 < length l → read_entry format floor l ≡ bad f → read_entries format floor l ≡ good es k → B
 unfolding read_entries
 first_good format floor l f es k h p q = never (sym (all.one_bad (read_entry format) above floor l f h p) ∙ q)
 

@@ -1,6 +1,6 @@
 -- Laws of the book.
 --     Book       writing and reading are one form: round trip, and one book for each list of records
---     Entries    from a kind and a record to a record with its kind, and to those behind it
+--     Entries    records that read: one, and those behind it
 --     Measured   from one record to the next, to the end of the book
 --     Opening    the header and the whole book
 --     Room       a book in the first bytes of lent room

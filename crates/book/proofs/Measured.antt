@@ -6,19 +6,19 @@ use native.Mathlib.Omega.{arith}
 use borrow.Author.Tests.{ne_eqb}
 use lib.ListN.{length, drop, length-append, length-drop, drop_of_length-le}
 use lib.Seq.{drop-drop}
-use Rattle.slices.specs.declared.Span.{Span}
+use Rattle.std.specs.Prelude.{Ok, Err}
+use Rattle.terms.specs.declared.Fault.{Fault}
+use Rattle.entry.specs.declared.Record as told
 use Rattle.fields.specs.Got.{Got, good, bad, grown, read_all}
 use Rattle.fields.proofs.All as all
 use Rattle.header.specs.declared.Cursor.{Cursor}
-use Rattle.entry.specs.declared.Step.TheVariants as step
 use Rattle.book.specs.declared.Measure.{Measure}
-use Rattle.book.specs.declared.Survey.TheVariants as survey
 use Rattle.entry.specs.Entry.{Entry, entry_bytes, read_entry, above}
 use Rattle.book.specs.Book.{read_entries, live, live_bytes, floor_of}
-use Rattle.entry.specs.Told.{step_at}
+use Rattle.entry.specs.Told.{record_at}
 use Rattle.book.specs.Told.{surveyed}
 use Rattle.entry.proofs.Entry.{entry_law, some_entry}
-use Rattle.entry.proofs.Kind.{step_told, step_fault}
+use Rattle.entry.proofs.Kind.{record_told, record_fault}
 
 -- ---- the live ones
 module _ (format : ℕ) (e : Entry) (es : List Entry) where
@@ -50,14 +50,14 @@ module _ (format : ℕ) (m : Measure) (e : Entry) (n : ℕ) where
       let c : m.count + length (e ∷ es) ≡ m.count + 1 + length es = omega arith in
       let v : m.live + length (live (e ∷ es)) ≡ m.live + 1 + length (live es) = omega (arith, ap length l) in
       let z : m.size + length (live_bytes format (e ∷ es)) ≡ m.size + length w + length (live_bytes format es) = omega (arith, ap length (live_kept format e es k), length-append w (live_bytes format es)) in
-      λ i. survey.All (record { count = c i; live = v i; floor = floor_of (above e) es; least = floor_of m.least (l i); size = z i })
+      λ i. Ok (record { count = c i; live = v i; floor = floor_of (above e) es; least = floor_of m.least (l i); size = z i })
 
   one_closed : (e.kind ≡ 1 → ⊥) → (x : Got (List Entry)) → surveyed format m (grown e n x) ≡ surveyed format (with_closed m (above e)) x
   one_closed k (bad f) = refl
   one_closed k (good es j) =
       let l : live (e ∷ es) ≡ live es = rw (ne_eqb e.kind 1 k) in
       let c : m.count + length (e ∷ es) ≡ m.count + 1 + length es = omega arith in
-      λ i. survey.All (record { count = c i; live = m.live + length (l i); floor = floor_of (above e) es; least = floor_of m.least (l i); size = m.size + length (live_passed format e es k i) })
+      λ i. Ok (record { count = c i; live = m.live + length (l i); floor = floor_of (above e) es; least = floor_of m.least (l i); size = m.size + length (live_passed format e es k i) })
 
 module _ (format : ℕ) (s : List ℕ) (at floor : ℕ) (h : at < length s) (m : Measure) where
   pub record Turn (k : ℕ) (cur : Cursor) : Type 0 where
@@ -66,10 +66,10 @@ module _ (format : ℕ) (s : List ℕ) (at floor : ℕ) (h : at < length s) (m :
     pub kept : k ≡ 1 → surveyed format (with_live m cur.floor (cur.at - at)) (read_entries format cur.floor (drop cur.at s)) ≡ surveyed format m (read_entries format floor (drop at s))
     pub passed : (k ≡ 1 → ⊥) → surveyed format (with_closed m cur.floor) (read_entries format cur.floor (drop cur.at s)) ≡ surveyed format m (read_entries format floor (drop at s))
 
-  pub turn : (v : ℕ) (sn sp sa : Span) (cur : Cursor) (k : ℕ) → step_at format at (read_entry format floor (drop at s)) ≡ step.Record v sn sp sa cur k → Turn k cur
+  pub turn : (r : told.Record) → record_at format at (read_entry format floor (drop at s)) ≡ Ok r → Turn r.kind r.next
   unfolding read_entries
-  turn v sn sp sa cur k p =
-      let t = step_told format at v sn sp sa cur k (read_entry format floor (drop at s)) p in
+  turn r p =
+      let t = record_told format at r (read_entry format floor (drop at s)) p in
       let e : Entry = t.e in
       let u : t.n ≡ length (entry_bytes format e) = (entry_law format floor).used (drop at s) e t.n t.is in
       let w : t.n ≤ length (drop at s) = (entry_law format floor).within (drop at s) e t.n t.is in
@@ -77,7 +77,7 @@ module _ (format : ℕ) (s : List ℕ) (at floor : ℕ) (h : at < length s) (m :
       let g : read_all (read_entry format) above floor 0 (drop at s) ≡ grown e t.n x =
       all.one_more (read_entry format) above floor (drop at s) e t.n t.is (omega (arith, some_entry format e)) w
       ∙ ap (λ (l : List ℕ). grown e t.n (read_all (read_entry format) above (above e) 0 l)) (drop-drop t.n at s) in
-      let z : cur.at - at ≡ length (entry_bytes format e) = omega (arith, t.place, u) in
+      let z : r.next.at - at ≡ length (entry_bytes format e) = omega (arith, t.place, u) in
       record {
         rises = omega (arith, t.place, some_entry format e);
         within = omega (arith, t.place, length-drop at s);
@@ -89,10 +89,10 @@ module _ (format : ℕ) (s : List ℕ) (at floor : ℕ) (h : at < length s) (m :
             ∙ sym (ap (surveyed format m) g ∙ one_closed format m e t.n (λ y. j (t.kind ∙ y)) x);
       }
 
-  pub stopped : (f : ℕ) → step_at format at (read_entry format floor (drop at s)) ≡ step.Fault f → survey.Fault f ≡ surveyed format m (read_entries format floor (drop at s))
+  pub stopped : (f : Fault) → record_at format at (read_entry format floor (drop at s)) ≡ Err f → Err f ≡ surveyed format m (read_entries format floor (drop at s))
   unfolding read_entries
   stopped f p =
-      sym (ap (surveyed format m) (all.one_bad (read_entry format) above floor (drop at s) f (omega (arith, length-drop at s)) (step_fault format at f (read_entry format floor (drop at s)) p)))
+      sym (ap (surveyed format m) (all.one_bad (read_entry format) above floor (drop at s) f (omega (arith, length-drop at s)) (record_fault format at f (read_entry format floor (drop at s)) p)))
 
 -- the same, where the parts are known by equations
 module _ (format : ℕ) (s : List ℕ) (at floor : ℕ) (h : at < length s) (m : Measure) (k : ℕ) (cur : Cursor) (t : Turn format s at floor h m k cur) (v l z : ℕ) where
@@ -104,10 +104,10 @@ module _ (format : ℕ) (s : List ℕ) (at floor : ℕ) (h : at < length s) (m :
       → surveyed format (record { count = m.count + 1; live = v; floor = cur.floor; least = l; size = z }) (read_entries format cur.floor (drop cur.at s)) ≡ surveyed format m (read_entries format floor (drop at s))
   counted_closed j p q r = (λ i. surveyed format (record { count = m.count + 1; live = p i; floor = cur.floor; least = q i; size = r i }) (read_entries format cur.floor (drop cur.at s))) ∙ t.passed j
 
-pub ended : (format : ℕ) (s : List ℕ) (at : ℕ) (m : Measure) → length s ≤ at → survey.All m ≡ surveyed format m (read_entries format m.floor (drop at s))
+pub ended : (format : ℕ) (s : List ℕ) (at : ℕ) (m : Measure) → length s ≤ at → Ok m ≡ surveyed format m (read_entries format m.floor (drop at s))
 unfolding read_entries
 ended format s at m h =
     let c : m.count ≡ m.count + 0 = omega arith in
     let v : m.live ≡ m.live + 0 = omega arith in
     let z : m.size ≡ m.size + length (live_bytes format []) = omega (arith, ap length (none_live format)) in
-    rw (drop_of_length-le s h) (λ i. survey.All (record { count = c i; live = v i; floor = m.floor; least = m.least; size = z i }))
+    rw (drop_of_length-le s h) (λ i. Ok (record { count = c i; live = v i; floor = m.floor; least = m.least; size = z i }))

@@ -1,6 +1,7 @@
 -- The station key book, after requests L1 and L7: how it is written, and what reading it gives: its header and records, or the first
 -- fault met, at the byte that shows it, and of a short book at its end. crates/book_laws/proofs/Good.antt has the theorems.
-use Rattle.std.specs.Prelude.{ℕ, ◌+◌, cond, List, [], ◌∷◌, ◌++◌, drop}
+use Rattle.std.specs.Prelude.{ℕ, ◌+◌, cond, List, [], ◌∷◌, ◌++◌, drop, Option}
+use Rattle.terms.specs.declared.Fault.{Fault}
 pub use Rattle.fields.specs.Got.{Got, good, bad, Both}
 use Rattle.fields.specs.Got.{read_all, write_all}
 pub use Rattle.header.specs.declared.Header.{Header}
@@ -25,7 +26,7 @@ abbrev pub behind_header : List ℕ → Got Header → Got Book
 behind_header l (good h n) = under h n (read_entries h.format 0 (drop n l))
 behind_header l (bad f) = bad f
 
-unfoldable pub read_book_by : (ℕ → ℕ) → List ℕ → Got Book
+unfoldable pub read_book_by : (ℕ → Option Fault) → List ℕ → Got Book
 read_book_by format l = behind_header l (read_header_by format l)
 
 abbrev pub read_book : List ℕ → Got Book

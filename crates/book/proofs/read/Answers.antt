@@ -1,20 +1,23 @@
 -- `book::read` meets its contract.
-use mathlib.Core.Path.{sym, ◌∙◌}
+use mathlib.Core.Path.{sym}
+use Rattle.std.proofs.lemmas.Result.{err_from_is_err_and}
 use Rattle.header.specs.Head.{formats}
 use Rattle.book.proofs.Opening.{reads, reads_bad, unopened}
 use Rattle.book.proofs.read.Goals as goal
 
-pub returns-in-All : goal.returns-in-All
-returns-in-All c =
+pub returns-in_err-opened : goal.returns-in_err-opened
+returns-in_err-opened c =
     let a = c.args in
-    reads (formats a.least) a.s.now _ _ (sym c.open-opened.ensures ∙ c.in-Book.is) _ (sym c.records_from-all.ensures ∙ c.in-All.is)
+    let p = err_from_is_err_and c.from_residual.result c.from_residual.ensures.1 in
+    rw (p.1, p.2) (unopened (formats a.least) a.s.now _ (sym c.in_err-opened.ensures))
 
-pub returns-in-Fault-all : goal.returns-in-Fault-all
-returns-in-Fault-all c =
+pub returns-in_err-measure : goal.returns-in_err-measure
+returns-in_err-measure c =
     let a = c.args in
-    reads_bad (formats a.least) a.s.now _ _ (sym c.open-opened.ensures ∙ c.in-Book.is) _ (sym c.records_from-all.ensures ∙ c.in-Fault-all.is)
+    let p = err_from_is_err_and c.from_residual-in_err-measure.result c.from_residual-in_err-measure.ensures.1 in
+    rw (p.1, p.2) (reads_bad (formats a.least) a.s.now _ (sym c.in_ok-opened.ensures) _ (sym c.in_err-measure.ensures))
 
-pub returns-in-Fault : goal.returns-in-Fault
-returns-in-Fault c =
+pub returns : goal.returns
+returns c =
     let a = c.args in
-    unopened (formats a.least) a.s.now _ (sym c.open-opened.ensures ∙ c.in-Fault.is)
+    reads (formats a.least) a.s.now _ (sym c.in_ok-opened.ensures) _ (sym c.in_ok-measure.ensures)

@@ -6,10 +6,10 @@ use Rattle.book.specs.Book.{read_entries}
 use Rattle.book.specs.Told.{surveyed, unmeasured}
 use Rattle.book.proofs.records_from.Given as goal
 
-abbrev pub invariant-loop-at : goal.invariant-loop-at
-invariant-loop-at l =
-    (l.count ≤ l.at) × (l.live ≤ l.at) × (l.size ≤ l.at)
-    × (surveyed l.format (record { count = l.count; live = l.live; floor = l.floor; least = l.least; size = l.size }) (read_entries l.format l.floor (drop l.at l.s)) ≡ surveyed l.format unmeasured (read_entries l.format 0 (drop l.from l.s)))
+abbrev pub invariant-loop-c : goal.invariant-loop-c
+invariant-loop-c l =
+    (l.count ≤ l.c.at) × (l.live ≤ l.c.at) × (l.size ≤ l.c.at)
+    × (surveyed l.format (record { count = l.count; live = l.live; floor = l.c.floor; least = l.least; size = l.size }) (read_entries l.format l.c.floor (drop l.c.at l.s)) ≡ surveyed l.format unmeasured (read_entries l.format 0 (drop l.from l.s)))
 
-abbrev pub decreases-loop-at : goal.decreases-loop-at
-decreases-loop-at l = length l.s - l.at
+abbrev pub decreases-loop-c : goal.decreases-loop-c
+decreases-loop-c l = length l.s - l.c.at

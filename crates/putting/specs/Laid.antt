@@ -1,28 +1,28 @@
 -- What laying bytes into lent room answers and leaves there.
-use Rattle.std.specs.Prelude.{ℕ, ◌+◌, ◌≡◌, cond, List, ltb, eqb, length}
+use Rattle.std.specs.Prelude.{ℕ, ◌+◌, ◌≡◌, cond, List, ltb, length, Option, Some, None, Result, Ok, Err}
 use Rattle.std.proofs.lemmas.List.Edits.{sets}
-use Rattle.terms.specs.Refusals.{no_room}
-use Rattle.putting.specs.declared.Made.{Made}
-use Rattle.putting.specs.declared.Made.TheVariants.{Length, Fault}
-use Rattle.entry.specs.Entry.{Record, Entry}
+use Rattle.terms.specs.declared.Fault.{Fault}
+use Rattle.terms.specs.declared.Fault.TheVariants.{NoRoom}
+
+-- the length of the book that was made, or the fault
+abbrev pub Made : Type 0
+Made = Result ℕ Fault
+
+-- a number that was made, unless something is at fault
+abbrev pub unless : Option Fault → ℕ → Result ℕ Fault
+unless None n = Ok n
+unless (Some f) n = Err f
 
 -- ---- bytes that are laid into lent room at a place, unless something is at fault before: the room is tested last
-abbrev pub placed : ℕ → ℕ → ℕ → List ℕ → Made
-placed fault room at bytes =
-    cond (eqb fault 0) (cond (ltb room (at + length bytes)) (Fault no_room) (Length (at + length bytes))) (Fault fault)
+abbrev pub placed : Option Fault → ℕ → ℕ → List ℕ → Made
+placed (Some f) room at bytes = Err f
+placed None room at bytes = cond (ltb room (at + length bytes)) (Err NoRoom) (Ok (at + length bytes))
 
 -- a refusal changes nothing
 abbrev pub left : Made → List ℕ → ℕ → List ℕ → List ℕ
-left (Length n) room at bytes = sets room at bytes
-left (Fault f) room at bytes = room
+left (Ok n) room at bytes = sets room at bytes
+left (Err f) room at bytes = room
 
-pub record Placed (fault : ℕ) (room : List ℕ) (at : ℕ) (bytes : List ℕ) (r : Made) (room' : List ℕ) : Type 0 where
+pub record Placed (fault : Option Fault) (room : List ℕ) (at : ℕ) (bytes : List ℕ) (r : Made) (room' : List ℕ) : Type 0 where
   pub answer : r ≡ placed fault (length room) at bytes
   pub leaves : room' ≡ left (placed fault (length room) at bytes) room at bytes
-
-abbrev pub record_with : ℕ → List ℕ → List ℕ → List ℕ → Record
-record_with station name primary alternate = record { station = station; name = name; primary = primary; alternate = alternate }
-
--- a new record is live
-abbrev pub entry_with : ℕ → List ℕ → List ℕ → List ℕ → Entry
-entry_with station name primary alternate = record { kind = 1; body = record_with station name primary alternate }

@@ -1,38 +1,44 @@
-// A new station key book in lent room. A fault is document 02's number: 5 for a cut that no number of the book holds, 9 for too little room; a
-// refusal changes nothing.
+// A new station key book in lent room: `BadNumber` for a cut that no number of the book holds, `NoRoom` for too little room. A refusal changes
+// nothing.
 #![tactic(auto)]
 
-ghost use Rattle.std.specs.Prelude.{◌^◌, ◌<◌};
+ghost use Rattle.std.specs.Prelude.{◌≡◌};
 ghost use Rattle.header.specs.Head.{header_bytes, cut_of};
-ghost use Rattle.putting.specs.Laid.{Placed};
+ghost use Rattle.putting.specs.Laid.{Placed, unless};
 ghost use Rattle.starting.specs.New.{new_header, cut_fault};
 
+use header::Header;
 use putting::Made;
-use terms::{BAD_NUMBER, Limit, NEW_EDITION, NEW_FORMAT, NO_ROOM};
+use terms::{Fault, Limit, NEW_EDITION, NEW_FORMAT};
 
-// A new book under a cut that four groups hold.
-fn begin(room: &mut [u8], cut: u32) -> Made
-    requires { cut < 2 ^ 28 }
-    ensures { Placed 0 room.old 0 (header_bytes (new_header cut)) result room.new }
+// The cut that a limit is stored as, where four groups hold it.
+fn cut_of(limit: Limit) -> Result<u32, Fault>
+    ensures { result ≡ unless (cut_fault (cut_of limit)) (cut_of limit) }
 {
-    let size = number::width(NEW_FORMAT) + number::width(NEW_EDITION) + number::width(cut);
-    if room.len() < size {
-        return Made::Fault(NO_ROOM);
+    match limit {
+        None => Ok(0),
+        Some(n) => {
+            if 0x0fff_fffe < n {
+                return Err(Fault::BadNumber);
+            }
+            Ok(n as u32 + 1)
+        }
     }
-    Made::Length(putting::put_header(room, 0, NEW_FORMAT, NEW_EDITION, cut))
 }
 
 // A new book, with no records.
 pub fn start(room: &mut [u8], limit: Limit) -> Made
     ensures { Placed (cut_fault (cut_of limit)) room.old 0 (header_bytes (new_header (cut_of limit))) result room.new }
 {
-    match limit {
-        None => begin(room, 0),
-        Some(n) => {
-            if 0x0fff_fffe < n {
-                return Made::Fault(BAD_NUMBER);
-            }
-            begin(room, n as u32 + 1)
-        }
+    let cut = cut_of(limit)?;
+    let header = Header {
+        format: NEW_FORMAT,
+        edition: NEW_EDITION,
+        cut,
+    };
+    let size = putting::header_size(header);
+    if room.len() < size {
+        return Err(Fault::NoRoom);
     }
+    Ok(putting::put_header(room, 0, header))
 }

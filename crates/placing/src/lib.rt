@@ -2,59 +2,49 @@
 #![tactic(auto)]
 
 ghost use Rattle.std.specs.Prelude.{◌≡◌, ◌≤◌, ◌+◌, leb, length};
-ghost use Rattle.terms.specs.Limits.{word_limit, code_room};
 ghost use Rattle.entry.specs.Entry.{entry_bytes};
-ghost use Rattle.putting.specs.Laid.{Placed, entry_with};
+ghost use Rattle.putting.specs.Laid.{Placed, unless};
+ghost use Rattle.putting.specs.New.{new_entry, Short};
 ghost use Rattle.placing.specs.Placing.{station_fault, floor_where};
 
 use number::LARGEST;
-use putting::Made;
-use terms::{BAD_NUMBER, NO_ROOM, NOT_ABOVE};
+use putting::{Made, NewRecord};
+use terms::Fault;
+
+// A station as a book holds it, where it is at least `floor`.
+pub fn station_from(floor: u32, station: u64) -> Result<u32, Fault>
+    ensures { result ≡ unless (station_fault floor station) station }
+{
+    if LARGEST < station {
+        return Err(Fault::BadNumber);
+    }
+    let number = station as u32;
+    if number < floor {
+        return Err(Fault::NotAbove);
+    }
+    Ok(number)
+}
 
 // The least station of a record behind an end. Where the record does not fit there, closed ones of a format 2 book may give room back: its
 // station is then for `add` to judge.
 fn floor_where(fits: bool, format: u32, floor: u32) -> u32
     ensures { result ≡ floor_where fits format floor }
 {
-    if fits {
-        return floor;
-    }
-    if format == 1 {
-        return floor;
-    }
-    0
+    if fits || format == 1 { floor } else { 0 }
 }
 
 // Adds a record whose codes are made.
-pub fn append_coded(
-    room: &mut [u8],
-    len: usize,
-    format: u32,
-    floor: u32,
-    station: u64,
-    name: &[u8],
-    primary: &[u8],
-    alternate: &[u8],
-) -> Made
-    requires { (len ≤ length room.old) × (length name.now ≤ word_limit) × (length primary.now ≤ code_room) × (length alternate.now ≤ code_room) }
+pub fn append_coded(room: &mut [u8], len: usize, format: u32, floor: u32, new: NewRecord) -> Made
+    requires { (len ≤ length room.old) × Short new }
     ensures { Placed
-        (station_fault (floor_where (leb (len + length (entry_bytes format (entry_with station name.now primary.now alternate.now))) (length room.old)) format floor) station)
-        room.old len
-        (entry_bytes format (entry_with station name.now primary.now alternate.now)) result room.new }
+        (station_fault (floor_where (leb (len + length (entry_bytes format (new_entry new.entry))) (length room.old)) format floor) new.entry.station)
+        room.old len (entry_bytes format (new_entry new.entry)) result room.new }
 {
-    if LARGEST < station {
-        return Made::Fault(BAD_NUMBER);
-    }
-    let number = station as u32;
-    let size = putting::entry_size(format, number, name, primary, alternate);
+    let size = new.entry_size(format);
     let fits = size <= room.len() - len;
-    if number < floor_where(fits, format, floor) {
-        return Made::Fault(NOT_ABOVE);
+    station_from(floor_where(fits, format, floor), new.station)?;
+    if !fits {
+        return Err(Fault::NoRoom);
     }
-    if fits {
-        return Made::Length(putting::put_entry(
-            room, len, format, number, name, primary, alternate,
-        ));
-    }
-    Made::Fault(NO_ROOM)
+    Ok(new.put_entry(room, len, format))
 }

@@ -1,6 +1,6 @@
 -- A header and a record, laid into lent room.
 use Prim.Native.Nat.{ℕ, ◌+◌, ◌^◌, ◌≤◌, ◌<◌}
-use mathlib.Core.Path.{◌≡◌, refl, ap, ◌∙◌, subst}
+use mathlib.Core.Path.{◌≡◌, refl, ap, subst}
 use mathlib.Core.List.{List, ◌++◌}
 use native.Mathlib.Omega.{arith}
 use borrow.Author.Tests.{lt-ltb, le-ltb, ne_eqb}
@@ -10,15 +10,23 @@ use Rattle.terms.specs.declared.Fault.{Fault}
 use Rattle.terms.specs.declared.Fault.TheVariants.{NoRoom}
 use Rattle.fields.specs.Field.{number, text}
 use Rattle.fields.specs.Put.{Put}
-use Rattle.fields.proofs.Put.{wide, four, text_length, put_then}
+use Rattle.fields.proofs.Put.{four, text_length, put_then}
 use Rattle.header.specs.declared.Header.{Header}
 use Rattle.header.specs.Head.{header_bytes}
 use Rattle.entry.specs.Entry.{record_bytes, kind_bytes, entry_bytes}
 use Rattle.putting.specs.declared.NewRecord.{NewRecord}
-use Rattle.putting.specs.Laid.{placed, left, Placed, Made}
+use Rattle.putting.specs.Laid.{unless, Placed}
 use Rattle.putting.specs.New.{new_record, new_entry, Short}
 
 -- ---- answers
+pub unless_err : (g : Option Fault) (n : ℕ) (f : Fault) → Err f ≡ unless g n → Some f ≡ g
+unless_err None n f e = let z : ◌≡◌ {A = ℕ} 0 1 = cc in absurd (omega arith)
+unless_err (Some g) n f e = let z : f ≡ g = cc in ap (λ (k : Fault). Some k) z
+
+pub unless_ok : (g : Option Fault) (n m : ℕ) → Ok m ≡ unless g n → None ≡ g
+unless_ok None n m e = refl
+unless_ok (Some g) n m e = let z : ◌≡◌ {A = ℕ} 0 1 = cc in absurd (omega arith)
+
 module _ (room : List ℕ) (at : ℕ) (bytes : List ℕ) where
   pub placed_fault : (f : Fault) (g : Option Fault) → Some f ≡ g → Placed g room at bytes (Err f) room
   placed_fault f g e = subst (λ (k : Option Fault). Placed k room at bytes (Err f) room) e (record { answer = refl; leaves = refl })

@@ -1,7 +1,6 @@
 -- `putting::NewRecord::record_size` meets its contract: no record comes near the largest `usize`.
 use native.Mathlib.Omega.{arith}
-use lib.ListN.{length}
-use Rattle.fields.proofs.Put.{wide, four, text_length}
+use Rattle.fields.proofs.Put.{wide}
 use Rattle.putting.proofs.Laid.{record_length, record_small}
 use Rattle.putting.proofs.NewRecord.record_size.Goals as goal
 

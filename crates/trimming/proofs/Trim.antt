@@ -4,49 +4,37 @@ use mathlib.Core.Path.{◌≡◌, refl, sym, ap, ◌∙◌}
 use mathlib.Core.List.{List, [], ◌∷◌, ◌++◌}
 use mathlib.Core.Bool.{Bool, true, false, cond}
 use native.Mathlib.Omega.{arith}
-use native.Mathlib.Numerals.{add-one}
 use lib.ListN.{length, get_or, take, drop, length-drop}
-use lib.Seq.{drop-cons, take-suc, take_all, length-take-le}
+use lib.Seq.{take_all, length-take-le}
 use Rattle.trimming.specs.Trim.{blank, trim_start, keep, trim_end, trimmed, all_blank, Between}
 
-module _ (w : List ℕ) (i : ℕ) (inside : i < length w) where
-  -- from the front: a blank is passed, and any other byte ends the search
-  pub blank_front : blank (get_or w i 0) ≡ true → trim_start (drop i w) ≡ trim_start (drop (i + 1) w)
-  blank_front e = rw (add-one, drop-cons w i 0 inside, e)
+-- what lies behind the first byte that is no blank, and before the last one
+pub from_first : (w : List ℕ) (i : ℕ) → i ≤ length w → (i < length w → blank (get_or w i 0) ≡ false) → ((k : ℕ) → k < i → blank (get_or w k 0) ≡ true)
+    → drop i w ≡ trim_start w
+from_first [] zero l kept passed = refl
+from_first [] (suc i) l kept passed = absurd (omega arith)
+from_first (b ∷ w) zero l kept passed = rw (kept (omega arith))
+from_first (b ∷ w) (suc i) l kept passed =
+    rw (passed 0 (omega arith)) (from_first w i (omega arith) (λ h. kept (omega arith)) (λ k h. passed (suc k) (omega arith)))
 
-  pub kept_front : blank (get_or w i 0) ≡ false → trim_start (drop i w) ≡ drop i w
-  kept_front e = rw (drop-cons w i 0 inside, e)
+keep_more : (b : ℕ) (w : List ℕ) → 0 < length w → keep b w ≡ b ∷ w
+keep_more b [] h = absurd (omega arith)
+keep_more b (x ∷ w) h = refl
 
--- from the end, with the last byte b
-blank_last : (l : List ℕ) (b : ℕ) → blank b ≡ true → trim_end (l ++ (b ∷ [])) ≡ trim_end l
-blank_last [] b e = rw e
-blank_last (x ∷ l) b e = ap (λ (r : List ℕ). keep x r) (blank_last l b e)
-
-keep_more : (x : ℕ) (l : List ℕ) (b : ℕ) → keep x (l ++ (b ∷ [])) ≡ x ∷ (l ++ (b ∷ []))
-keep_more x [] b = refl
-keep_more x (y ∷ l) b = refl
-
-kept_last : (l : List ℕ) (b : ℕ) → blank b ≡ false → trim_end (l ++ (b ∷ [])) ≡ l ++ (b ∷ [])
-kept_last [] b e = rw e
-kept_last (x ∷ l) b e = ap (λ (r : List ℕ). keep x r) (kept_last l b e) ∙ keep_more x l b
-
-pub blank_back : (w : List ℕ) (e : ℕ) → 0 < e → e ≤ length w → blank (get_or w (e - 1) 0) ≡ true → trim_end (take e w) ≡ trim_end (take (e - 1) w)
-blank_back w zero h l q = absurd (omega arith)
-blank_back w (suc k) h l q =
-    let s : suc k - 1 ≡ k = omega arith in
-    let q' : blank (get_or w k 0) ≡ true = rw (← s) q in
-    rw (s, take-suc w k 0 l) (blank_last (take k w) (get_or w k 0) q')
-
-pub kept_back : (w : List ℕ) (e : ℕ) → 0 < e → e ≤ length w → blank (get_or w (e - 1) 0) ≡ false → trim_end (take e w) ≡ take e w
-kept_back w zero h l q = absurd (omega arith)
-kept_back w (suc k) h l q =
-    let s : suc k - 1 ≡ k = omega arith in
-    let q' : blank (get_or w k 0) ≡ false = rw (← s) q in
-    rw (take-suc w k 0 l) (kept_last (take k w) (get_or w k 0) q')
-
-pub none_back : (w : List ℕ) (e : ℕ) → e ≤ 0 → trim_end (take e w) ≡ trim_end w → take e w ≡ trim_end w
-none_back w zero h q = q
-none_back w (suc k) h q = absurd (omega arith)
+pub to_last : (w : List ℕ) (e : ℕ) → e ≤ length w → ((k : ℕ) → e ≡ k + 1 → blank (get_or w k 0) ≡ false) → ((k : ℕ) → e ≤ k → k < length w → blank (get_or w k 0) ≡ true)
+    → take e w ≡ trim_end w
+to_last [] zero l kept passed = refl
+to_last [] (suc e) l kept passed = absurd (omega arith)
+to_last (b ∷ w) zero l kept passed =
+    let none : [] ≡ trim_end w = to_last w 0 (omega arith) (λ k h. absurd (omega arith)) (λ k g h. passed (suc k) (omega arith) (omega arith)) in
+    rw (sym none, passed 0 (omega arith) (omega arith)) refl
+to_last (b ∷ w) (suc zero) l kept passed =
+    let none : [] ≡ trim_end w = to_last w 0 (omega arith) (λ k h. absurd (omega arith)) (λ k g h. passed (suc k) (omega arith) (omega arith)) in
+    rw (sym none, kept 0 (omega arith)) refl
+to_last (b ∷ w) (suc (suc e)) l kept passed =
+    let rest : take (suc e) w ≡ trim_end w = to_last w (suc e) (omega arith) (λ k h. kept (suc k) (omega arith)) (λ k g h. passed (suc k) (omega arith) (omega arith)) in
+    let some : 0 < length (trim_end w) = rw (← rest) (omega (arith, length-take-le (suc e) w (omega arith))) in
+    ap (λ (t : List ℕ). b ∷ t) rest ∙ sym (keep_more b (trim_end w) some)
 
 -- the part of a word between its two ends is the trimmed word
 pub record Inner (w : List ℕ) (from len : ℕ) : Type 0 where

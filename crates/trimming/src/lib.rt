@@ -8,11 +8,7 @@ ghost use Rattle.trimming.specs.Trim.{blank, trim_start, trim_end, trimmed};
 fn is_blank(b: u8) -> bool
     ensures { result ≡ blank b }
 {
-    match b {
-        32 => true,
-        9..=13 => true,
-        _ => false,
-    }
+    matches!(b, 9..=13 | 32)
 }
 
 // Where the trimmed word starts.
@@ -20,14 +16,7 @@ pub fn front(w: &[u8]) -> usize
     ensures within { result ≤ length w.now }
     ensures start { drop result w.now ≡ trim_start w.now }
 {
-    let mut i = 0;
-    while i < w.len() {
-        if !is_blank(w[i]) {
-            return i;
-        }
-        i += 1;
-    }
-    i
+    w.iter().position(|b| !is_blank(*b)).unwrap_or(w.len())
 }
 
 // Where it ends.
@@ -35,14 +24,9 @@ pub fn back(w: &[u8]) -> usize
     ensures within { result ≤ length w.now }
     ensures end { take result w.now ≡ trim_end w.now }
 {
-    let mut e = w.len();
-    while 0 < e {
-        if !is_blank(w[e - 1]) {
-            return e;
-        }
-        e -= 1;
-    }
-    e
+    w.iter()
+        .rposition(|b| !is_blank(*b))
+        .map_or(0, |last| last + 1)
 }
 
 // The word between its blanks, as a part of the lent one.

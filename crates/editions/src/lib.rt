@@ -5,13 +5,9 @@ ghost use Rattle.editions.specs.Editions.{EncodedIn};
 
 use answers::Reply;
 use encoder::Encoder;
-use terms::{EDITIONS, Limit, edition_of};
-
-// The last known edition, as a call names it.
-const LAST: u64 = EDITIONS as u64;
+use terms::{Edition, Limit};
 
 // Encodes under the edition of this number. One that is not known is refused before all else.
-#[tactic(auto, using(crate::proofs::Editions::unknown))]
 pub fn encode_in(
     edition: u64,
     limit: Limit,
@@ -21,9 +17,7 @@ pub fn encode_in(
 ) -> Reply
     ensures { EncodedIn edition limit word.now primary.old alternate.old result primary.new alternate.new }
 {
-    if (edition == 0) | (LAST < edition) {
-        return Reply::UnknownEdition;
-    }
-    let answer = Encoder::in_edition(edition_of(edition), limit).encode(word, primary, alternate);
-    Reply::Answered(answer)
+    let edition = Edition::try_from(edition)?;
+    let coded = Encoder::in_edition(edition, limit).encode(word, primary, alternate)?;
+    Ok(coded)
 }

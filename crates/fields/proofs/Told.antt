@@ -6,6 +6,7 @@ use mathlib.Core.List.{List}
 use native.Mathlib.Omega.{arith}
 use lib.ListN.{length, take, drop, length-drop}
 use lib.Seq.{drop-drop, length-take-le}
+use Rattle.std.specs.Result.{IsErrAnd}
 use Rattle.terms.specs.declared.Fault.{Fault}
 use Rattle.terms.specs.declared.Fault.TheVariants.{BookEnds}
 use Rattle.std.specs.Prelude.{Option, Some, None, Result, Ok, Err}
@@ -19,6 +20,11 @@ use Rattle.fields.specs.Field.{number, judged, read_number, read_bytes, read_tex
 use Rattle.fields.specs.Told.{field_at, value_at, span_at, part_at, bytes_at}
 use Rattle.fields.proofs.Law.{paired, first_bad, second_bad}
 use Rattle.fields.proofs.Forms.{Bytewise, number_good, number_bad, number_read, number_judged, number_law, bytes_read, bytes_good, bytes_short, none_in, text_good, text_bad, length_bad}
+
+-- ---- a fault that a `?` passes on
+pub passed : {A : Type 0} {f : Fault} {x : Result A Fault} (r : Result A Fault) → IsErrAnd r (λ g. g ≡ f) → Err f ≡ x → r ≡ x
+passed (Ok a) h e = absurd h
+passed (Err g) h e = ap Err h ∙ e
 
 -- ---- from what was told of a reading to the reading
 -- the value and the place of a field

@@ -1,6 +1,6 @@
 -- `book::read_in` meets its contract.
 use mathlib.Core.Path.{sym}
-use Rattle.std.proofs.lemmas.Result.{err_from_is_err_and}
+use Rattle.fields.proofs.Told.{passed}
 use Rattle.header.specs.Head.{formats}
 use Rattle.book.proofs.Room.{in_bad, in_short, in_good}
 use Rattle.book.proofs.read_in.Goals as goal
@@ -8,8 +8,7 @@ use Rattle.book.proofs.read_in.Goals as goal
 pub returns-in_err-whole : goal.returns-in_err-whole
 returns-in_err-whole c =
     let a = c.args in
-    let p = err_from_is_err_and c.from_residual.result c.from_residual.ensures.1 in
-    rw (p.1, p.2) (in_bad (formats a.least) a.room.now a.len _ c.min-there.ensures _ (sym c.in_err-whole.ensures))
+    passed _ c.from_residual.ensures.1 (in_bad (formats a.least) a.room.now a.len _ c.min-there.ensures _ (sym c.in_err-whole.ensures))
 
 pub returns-then-room-len : goal.returns-then-room-len
 returns-then-room-len c =

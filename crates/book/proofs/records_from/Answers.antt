@@ -1,7 +1,7 @@
 -- `book::records_from` meets its contract. The invariant: what is left makes the whole answer; a record takes a byte at least.
 use mathlib.Core.Path.{sym, ◌∙◌}
 use native.Mathlib.Omega.{arith}
-use Rattle.std.proofs.lemmas.Result.{err_from_is_err_and}
+use Rattle.fields.proofs.Told.{passed}
 use Rattle.book.specs.declared.Measure.{Measure}
 use Rattle.book.proofs.Measured.{turn, stopped, ended, counted_live, counted_closed}
 use Rattle.book.proofs.records_from.Goals as goal
@@ -12,8 +12,7 @@ returns-in_err-record c =
     let a = c.args in
     let l = c.loop-c in
     let m : Measure = record { count = l.count; live = l.live; floor = l.c.floor; least = l.least; size = l.size } in
-    let p = err_from_is_err_and c.from_residual.result c.from_residual.ensures.1 in
-    rw (p.1, p.2) (stopped a.format a.s.now l.c.at l.c.floor c.loop-c-test.true m _ (sym c.in_err-record.ensures) ∙ l.invariant.3)
+    passed _ c.from_residual.ensures.1 (stopped a.format a.s.now l.c.at l.c.floor c.loop-c-test.true m _ (sym c.in_err-record.ensures) ∙ l.invariant.3)
 
 pub overflow_sub-size : goal.overflow_sub-size
 overflow_sub-size c =

@@ -1,20 +1,18 @@
 -- `entry::codes_at` meets its contract.
 use mathlib.Core.Path.{sym}
-use Rattle.std.proofs.lemmas.Result.{err_from_is_err_and}
+use Rattle.fields.proofs.Told.{passed}
 use Rattle.entry.proofs.Told.{both_codes, second_code, first_code}
 use Rattle.entry.proofs.codes_at.Goals as goal
 
 pub returns-in_err-primary : goal.returns-in_err-primary
 returns-in_err-primary c =
     let a = c.args in
-    let p = err_from_is_err_and c.from_residual.result c.from_residual.ensures.1 in
-    rw (p.1, p.2) (first_code a.s.now a.at _ (sym c.in_err-primary.ensures))
+    passed _ c.from_residual.ensures.1 (first_code a.s.now a.at _ (sym c.in_err-primary.ensures))
 
 pub returns-in_err-alternate : goal.returns-in_err-alternate
 returns-in_err-alternate c =
     let a = c.args in
-    let p = err_from_is_err_and c.from_residual-in_err-alternate.result c.from_residual-in_err-alternate.ensures.1 in
-    rw (p.1, p.2) (second_code a.s.now a.at _ (sym c.in_ok-primary.ensures) _ (sym c.in_err-alternate.ensures))
+    passed _ c.from_residual-in_err-alternate.ensures.1 (second_code a.s.now a.at _ (sym c.in_ok-primary.ensures) _ (sym c.in_err-alternate.ensures))
 
 pub returns : goal.returns
 returns c =

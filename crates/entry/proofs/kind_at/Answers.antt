@@ -4,9 +4,8 @@ use mathlib.Core.Path.{sym, ap, ◌∙◌, ◌≡◌}
 use native.Mathlib.Omega.{arith}
 use lib.ListN.{drop}
 use Rattle.std.specs.Prelude.{Ok}
-use Rattle.std.proofs.lemmas.Result.{err_from_is_err_and}
 use Rattle.fields.specs.Told.{value_at}
-use Rattle.fields.proofs.Told.{value_kept, value_refused, value_passed}
+use Rattle.fields.proofs.Told.{passed, value_kept, value_refused, value_passed}
 use Rattle.entry.specs.Entry.{kinds}
 use Rattle.entry.proofs.Kind.{kind_above, kind_good, kind_unspelt, kind_spelt}
 use Rattle.entry.proofs.kind_at.Goals as goal
@@ -20,8 +19,7 @@ returns-then-format-eq1 c =
 pub returns-in_err-found : goal.returns-in_err-found
 returns-in_err-found c =
     let a = c.args in
-    let p = err_from_is_err_and c.from_residual.result c.from_residual.ensures.1 in
-    rw (p.1, p.2) (value_passed kinds (drop a.at a.s.now) a.at _ (sym c.in_err-found.ensures)
+    passed _ c.from_residual.ensures.1 (value_passed kinds (drop a.at a.s.now) a.at _ (sym c.in_err-found.ensures)
     ∙ sym (ap (value_at a.at) (kind_spelt a.format (drop a.at a.s.now) c.if-format-eq1.false)))
 
 pub returns-then-found-gt1 : goal.returns-then-found-gt1

@@ -1,14 +1,13 @@
 -- `entry::record_at` meets its contract.
 use mathlib.Core.Path.{sym, ◌∙◌}
-use Rattle.std.proofs.lemmas.Result.{err_from_is_err_and}
+use Rattle.fields.proofs.Told.{passed}
 use Rattle.entry.proofs.Kind.{kind_body, kind_fault}
 use Rattle.entry.proofs.record_at.Goals as goal
 
 pub returns-in_err-kind : goal.returns-in_err-kind
 returns-in_err-kind c =
     let a = c.args in
-    let p = err_from_is_err_and c.from_residual.result c.from_residual.ensures.1 in
-    rw (p.1, p.2) (kind_fault a.format a.floor a.s.now a.at _ (sym c.in_err-kind.ensures))
+    passed _ c.from_residual.ensures.1 (kind_fault a.format a.floor a.s.now a.at _ (sym c.in_err-kind.ensures))
 
 pub returns : goal.returns
 returns c =

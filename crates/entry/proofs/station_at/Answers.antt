@@ -1,17 +1,15 @@
 -- `entry::station_at` meets its contract.
 use mathlib.Core.Path.{sym}
 use lib.ListN.{drop}
-use Rattle.std.proofs.lemmas.Result.{err_from_is_err_and}
 use Rattle.entry.specs.Entry.{rising}
 use Rattle.entry.proofs.Told.{rising_below, rising_good}
-use Rattle.fields.proofs.Told.{value_kept, value_refused, value_passed}
+use Rattle.fields.proofs.Told.{passed, value_kept, value_refused, value_passed}
 use Rattle.entry.proofs.station_at.Goals as goal
 
 pub returns-in_err-found : goal.returns-in_err-found
 returns-in_err-found c =
     let a = c.args in
-    let p = err_from_is_err_and c.from_residual.result c.from_residual.ensures.1 in
-    rw (p.1, p.2) (value_passed (rising a.floor) (drop a.at a.s.now) a.at _ (sym c.in_err-found.ensures))
+    passed _ c.from_residual.ensures.1 (value_passed (rising a.floor) (drop a.at a.s.now) a.at _ (sym c.in_err-found.ensures))
 
 pub returns-then-found-floor : goal.returns-then-found-floor
 returns-then-found-floor c =

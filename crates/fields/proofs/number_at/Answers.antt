@@ -1,14 +1,12 @@
 -- `fields::number_at` meets its contract.
 use native.Mathlib.Omega.{arith}
-use Rattle.std.proofs.lemmas.Result.{err_from_is_err_and}
-use Rattle.fields.proofs.Told.{found_number, found_fits, found_fault}
+use Rattle.fields.proofs.Told.{passed, found_number, found_fits, found_fault}
 use Rattle.fields.proofs.number_at.Goals as goal
 
 pub returns-in_err-found : goal.returns-in_err-found
 returns-in_err-found c =
     let a = c.args in
-    let p = err_from_is_err_and c.from_residual.result c.from_residual.ensures.1 in
-    rw (p.1, p.2) (found_fault a.s.now a.at _ c.in_err-found.ensures)
+    passed _ c.from_residual.ensures.1 (found_fault a.s.now a.at _ c.in_err-found.ensures)
 
 pub overflow_add-result : goal.overflow_add-result
 overflow_add-result c =

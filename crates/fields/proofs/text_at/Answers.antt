@@ -1,15 +1,13 @@
 -- `fields::text_at` meets its contract.
 use mathlib.Core.Path.{sym}
-use Rattle.std.proofs.lemmas.Result.{err_from_is_err_and}
 use Rattle.fields.specs.Field.{any}
-use Rattle.fields.proofs.Told.{text_told, length_told}
+use Rattle.fields.proofs.Told.{passed, text_told, length_told}
 use Rattle.fields.proofs.text_at.Goals as goal
 
 pub returns-in_err-long : goal.returns-in_err-long
 returns-in_err-long c =
     let a = c.args in
-    let p = err_from_is_err_and c.from_residual.result c.from_residual.ensures.1 in
-    rw (p.1, p.2) (length_told any any a.s.now a.at _ (sym c.in_err-long.ensures))
+    passed _ c.from_residual.ensures.1 (length_told any any a.s.now a.at _ (sym c.in_err-long.ensures))
 
 pub returns : goal.returns
 returns c =

@@ -1,16 +1,14 @@
 -- `header::known_at` meets its contract.
 use mathlib.Core.Path.{sym}
 use lib.ListN.{drop}
-use Rattle.std.proofs.lemmas.Result.{err_from_is_err_and}
 use Rattle.header.specs.Head.{known}
-use Rattle.fields.proofs.Told.{value_kept, value_refused, value_passed}
+use Rattle.fields.proofs.Told.{passed, value_kept, value_refused, value_passed}
 use Rattle.header.proofs.known_at.Goals as goal
 
 pub returns-in_err-found : goal.returns-in_err-found
 returns-in_err-found c =
     let a = c.args in
-    let p = err_from_is_err_and c.from_residual.result c.from_residual.ensures.1 in
-    rw (p.1, p.2) (value_passed (known a.least a.most) (drop a.at a.s.now) a.at _ (sym c.in_err-found.ensures))
+    passed _ c.from_residual.ensures.1 (value_passed (known a.least a.most) (drop a.at a.s.now) a.at _ (sym c.in_err-found.ensures))
 
 pub returns-in-None : goal.returns-in-None
 returns-in-None c =

@@ -1,17 +1,15 @@
 -- `name::name_at` meets its contract.
 use mathlib.Core.Path.{sym}
 use lib.ListN.{drop}
-use Rattle.std.proofs.lemmas.Result.{err_from_is_err_and}
 use Rattle.name.specs.Named.{name_length, name_byte}
-use Rattle.fields.proofs.Told.{value_kept, value_refused, value_passed, text_told, length_told}
+use Rattle.fields.proofs.Told.{passed, value_kept, value_refused, value_passed, text_told, length_told}
 use Rattle.name.proofs.Told.{long_name, short_name, length_within}
 use Rattle.name.proofs.name_at.Goals as goal
 
 pub returns-in_err-long : goal.returns-in_err-long
 returns-in_err-long c =
     let a = c.args in
-    let p = err_from_is_err_and c.from_residual.result c.from_residual.ensures.1 in
-    rw (p.1, p.2) (length_told name_length name_byte a.s.now a.at _ (sym (value_passed name_length (drop a.at a.s.now) a.at _ (sym c.in_err-long.ensures))))
+    passed _ c.from_residual.ensures.1 (length_told name_length name_byte a.s.now a.at _ (sym (value_passed name_length (drop a.at a.s.now) a.at _ (sym c.in_err-long.ensures))))
 
 pub returns-then-len-gt-WORD_LIMIT : goal.returns-then-len-gt-WORD_LIMIT
 returns-then-len-gt-WORD_LIMIT c =

@@ -14,23 +14,26 @@ use Rattle.terms.specs.declared.Edition.TheVariants.{E1, E2}
 use Rattle.walk.specs.Walk.{filled}
 use Rattle.walk.specs.Word.{visits_of}
 use Rattle.terms.specs.Limits.{Limit}
-use Rattle.answers.specs.declared.Answer.{Answer}
-use Rattle.answers.specs.declared.Answer.TheVariants as answer
-use Rattle.answers.specs.declared.Reply.{Reply}
-use Rattle.answers.specs.declared.Reply.TheVariants as reply
+use Rattle.std.specs.Prelude.{Ok, Err}
+use Rattle.answers.specs.declared.Coded.{Coded}
+use Rattle.answers.specs.declared.CallRefusal.{CallRefusal}
+use Rattle.answers.specs.declared.Refusal.{Refusal}
+use Rattle.answers.specs.Numbers.{Reply}
+use Rattle.answers.specs.declared.Refusal.TheVariants as refusal
+use Rattle.answers.specs.declared.CallRefusal.TheVariants as call
 use Rattle.trimming.specs.Trim.{trimmed}
 use Rattle.ascii.specs.High.{first_high}
 use Rattle.terms.specs.Limits.{word_limit}
-use Rattle.encoder.specs.Encode.{number_of, place_of, visit_count, visits_under, Encoded}
-use Rattle.editions.specs.Editions.{reply_of, reply_number, EncodedIn}
+use Rattle.encoder.specs.Encode.{Answer, visit_count, answer_of, visits_under, Encoded}
+use Rattle.editions.specs.Editions.{replied, reply_of, reply_number, EncodedIn}
 use Rattle.trimming.proofs.Trim.{trimmed_length}
 use Rattle.demands.proofs.Demand2.{code_accepted, code_walked}
 use Rattle.editions.proofs.Editions.{edition_seven, edition_encoded}
 use Rattle.demands.proofs.Room.{never_three, never_four}
 use Rattle.rows.specs.Listing.{row_at, listing_of, all_numbers}
 use Rattle.rows.proofs.Rows.{visits_within}
-use Rattle.listing.specs.declared.Told.{Told}
-use Rattle.listing.specs.declared.Told.TheVariants.{Rows, TooLong, NotAscii, UnknownEdition, RoomShort}
+use Rattle.listing.specs.declared.Unlisted.TheVariants.{TooLong, NotAscii, UnknownEdition, RoomShort}
+use Rattle.listing.specs.Numbers.{Told, unlisted_by}
 use Rattle.listing.specs.Table.{Given}
 use Rattle.listing.specs.Listing.{in_room, left_in, told_of, room_of, Explained}
 use Rattle.row_writer.specs.Written.{edition_if, first_rows}
@@ -38,10 +41,10 @@ use Rattle.row_writer.specs.Written.{edition_if, first_rows}
 -- ---- each number exactly when, by its four tests
 module _ (n high room visits : ℕ) where
   by_tests : (u : Bool) (q₁ : Bool) → ltb word_limit n ≡ q₁ → (q₂ : Bool) → ltb high n ≡ q₂ → (q₃ : Bool) → ltb room visits ≡ q₃
-      → Given u n high room visits (cond u UnknownEdition (cond q₁ TooLong (cond q₂ (NotAscii high) (cond q₃ RoomShort (Rows visits)))))
+      → Given u n high room visits (cond u (Err UnknownEdition) (cond q₁ (Err TooLong) (cond q₂ (Err (NotAscii high)) (cond q₃ (Err RoomShort) (Ok visits)))))
   by_tests true q₁ e q₂ f q₃ g = of_unknown
     where
-      of_unknown : Given true n high room visits UnknownEdition
+      of_unknown : Given true n high room visits (Err UnknownEdition)
       of_unknown =
           record {
             seven = (λ h. refl, λ h. refl);
@@ -127,13 +130,13 @@ module _ (n : ℕ) (l : Limit) (w room : List ℕ) where
         rows = f;
       }
 
-  pub unknown : is_unknown n ≡ true → Explained n l w room UnknownEdition room
+  pub unknown : is_unknown n ≡ true → Explained n l w room (Err UnknownEdition) room
   unknown e = explained (rw e) (rw e)
 
-  pub too_long_lem : is_unknown n ≡ false → word_limit < length w → Explained n l w room TooLong room
+  pub too_long_lem : is_unknown n ≡ false → word_limit < length w → Explained n l w room (Err TooLong) room
   too_long_lem e h = explained (rw (e, lt-ltb word_limit (length w) h)) (rw (e, lt-ltb word_limit (length w) h))
 
-  pub not_ascii_lem : is_unknown n ≡ false → length w ≤ word_limit → first_high w < length w → (at : ℕ) → at ≡ first_high w → Explained n l w room (NotAscii at) room
+  pub not_ascii_lem : is_unknown n ≡ false → length w ≤ word_limit → first_high w < length w → (at : ℕ) → at ≡ first_high w → Explained n l w room (Err (NotAscii at)) room
   not_ascii_lem e h k at f =
       explained (rw (e, le-ltb word_limit (length w) h, lt-ltb (first_high w) (length w) k, f)) (rw (e, le-ltb word_limit (length w) h, lt-ltb (first_high w) (length w) k))
 
@@ -148,66 +151,64 @@ unfolding first_rows
 first_many ed k t h = length-map (take k (visits_of ed t)) (row_at ed t) ∙ length-take-le k (visits_of ed t) h
 
 module _ (ed : Edition) (k : ℕ) (t room : List ℕ) (h : k ≤ length (visits_of ed t)) where
-  pub short : length room / 7 < k → (RoomShort ≡ in_room (length room) k) × (room ≡ left_in (first_rows ed k t) room)
-  short l = (rw (lt-ltb (length room / 7) k l), rw (first_many ed k t h, lt-ltb (length room / 7) k l))
+  pub short : length room / 7 < k → room ≡ left_in (first_rows ed k t) room
+  short l = rw (first_many ed k t h, lt-ltb (length room / 7) k l)
 
-  pub enough : k ≤ length room / 7 → {room' : List ℕ} → room' ≡ filled (all_numbers (first_rows ed k t)) room → (Rows k ≡ in_room (length room) k) × (room' ≡ left_in (first_rows ed k t) room)
-  enough l e = (rw (le-ltb (length room / 7) k l), rw (first_many ed k t h, le-ltb (length room / 7) k l) e)
+  pub enough : k ≤ length room / 7 → {room' : List ℕ} → room' ≡ filled (all_numbers (first_rows ed k t)) room → room' ≡ left_in (first_rows ed k t) room
+  enough l e = rw (first_many ed k t h, le-ltb (length room / 7) k l) e
 
 -- ---- what the encoder's answer says
 edition_back : (e : Edition) → edition_if (is_second e) ≡ e
 edition_back E1 = refl
 edition_back E2 = refl
 
-module _ {n : ℕ} {l : Limit} {w p a p' a' : List ℕ} {y : Reply} (e : EncodedIn n l w p a y p' a') where
-  -- 7 is the edition's
-  pub asked_unknown : y ≡ reply.UnknownEdition → is_unknown n ≡ true
-  asked_unknown q = (edition_seven e).0 (ap reply_number q)
+-- a call that is known was made with a number that names an edition
+asked_known : {n : ℕ} {l : Limit} {w p a p' a' : List ℕ} (r : Answer) → EncodedIn n l w p a (replied r) p' a' → is_unknown n ≡ false
+asked_known {n} {l} {w} {p} {a} r e = by r (is_unknown n) e.answer
+  where
+    by : (r : Answer) (t : Bool) → replied r ≡ cond t (Err call.UnknownEdition) (replied (answer_of (edition_of n) l w (length p) (length a))) → t ≡ false
+    by (Ok c) true h = cc
+    by (Err c) true h = cc
+    by r false h = refl
 
-  module _ (r : Answer) (q : y ≡ reply.Answered r) where
-    pub asked_known : is_unknown n ≡ false
-    asked_known = by (is_unknown n) refl
-      where
-        by : (b : Bool) → is_unknown n ≡ b → is_unknown n ≡ false
-        by true h =
-            let f : reply_of n l w (length p) (length a) ≡ reply.UnknownEdition = rw h in
-            let z : ◌≡◌ {A = ℕ} 0 1 = cc (sym q ∙ e.answer ∙ f) in absurd (omega arith)
-        by false h = h
+module _ {n : ℕ} {l : Limit} {w p a p' a' room : List ℕ} (i : 2 * word_limit - 1 ≤ length p) (j : 2 * word_limit - 1 ≤ length a) where
+  -- a refusal of the encoder is the listing's, since no buffer is too short
+  pub refused : (call : CallRefusal) → EncodedIn n l w p a (Err call) p' a' → Explained n l w room (Err (unlisted_by call)) room
+  refused call.UnknownEdition e = unknown n l w room ((edition_seven e).0 refl)
+  refused (call.Refused refusal.TooLong) e =
+      let k = asked_known (Err refusal.TooLong) e in too_long_lem n l w room k ((edition_encoded {r = Err refusal.TooLong} k e).given.one.0 refl)
+  refused (call.Refused (refusal.NotAscii at)) e =
+      let k = asked_known (Err (refusal.NotAscii at)) e in
+      let g = (edition_encoded {r = Err (refusal.NotAscii at)} k e).given in
+      let h = g.two.0 refl in
+      not_ascii_lem n l w room k h.0 h.1 at (g.place refl)
+  refused (call.Refused refusal.PrimaryShort) e =
+      absurd (never_three (edition_encoded {r = Err refusal.PrimaryShort} (asked_known (Err refusal.PrimaryShort) e) e) i j refl)
+  refused (call.Refused refusal.AlternateShort) e =
+      absurd (never_four (edition_encoded {r = Err refusal.AlternateShort} (asked_known (Err refusal.AlternateShort) e) e) i j refl)
 
-    encoded : Encoded (edition_of n) l w p a r p' a'
-    encoded = edition_encoded asked_known (subst (λ (z : Reply). EncodedIn n l w p a z p' a') q e)
+-- a code-accepted word, and its visits
+module _ {n : ℕ} {l : Limit} {w p a p' a' : List ℕ} {x : Coded} (e : EncodedIn n l w p a (Ok x) p' a') where
+  pub listed_known : is_unknown n ≡ false
+  listed_known = asked_known (Ok x) e
 
-    pub answered_long : r ≡ answer.TooLong → word_limit < length w
-    answered_long f = encoded.given.one.0 (ap number_of f)
+  encoded : Encoded (edition_of n) l w p a (Ok x) p' a'
+  encoded = edition_encoded listed_known e
 
-    pub answered_high : (at : ℕ) → r ≡ answer.NotAscii at → (length w ≤ word_limit) × (first_high w < length w) × (at ≡ first_high w)
-    answered_high at f =
-        let g = encoded.given.two.0 (ap number_of f) in
-        (g.0, g.1, sym (ap place_of f) ∙ encoded.given.place (ap number_of f))
+  pub answered_fits : (length w ≤ word_limit) × (length w ≤ first_high w)
+  answered_fits = let g = encoded.given.accepted.0 refl in (g.0, g.1)
 
-    -- with room for any code no buffer is too short
-    pub answered_three : 2 * word_limit - 1 ≤ length p → 2 * word_limit - 1 ≤ length a → r ≡ answer.PrimaryShort → ⊥
-    answered_three i j f = never_three encoded i j (ap number_of f)
+  pub answered_visits : x.visits ≡ visits_under (edition_of n) l (trimmed w)
+  answered_visits = ap visit_count (code_walked (edition_of n) (code_accepted encoded refl) encoded).answer
 
-    pub answered_four : 2 * word_limit - 1 ≤ length p → 2 * word_limit - 1 ≤ length a → r ≡ answer.AlternateShort → ⊥
-    answered_four i j f = never_four encoded i j (ap number_of f)
+  -- the rows of its first visits, by the edition that the test tells, are its listing
+  module _ (second : Bool) (ed : Edition) (s : second ≡ is_second ed) (d : ed ≡ edition_of n) (t : List ℕ) (g : t ≡ trimmed w) where
+    edition_is : edition_if second ≡ edition_of n
+    edition_is = ap edition_if s ∙ edition_back ed ∙ d
 
-    -- an code-accepted word, and its visits
-    module _ (i j k : ℕ) (f : r ≡ answer.Coded i j k) where
-      pub answered_fits : (length w ≤ word_limit) × (length w ≤ first_high w)
-      answered_fits = let g = encoded.given.accepted.0 (ap number_of f) in (g.0, g.1)
+    pub asks_few : (length t ≤ word_limit) × (x.visits ≤ length (visits_of (edition_if second) t))
+    asks_few = rw (g, edition_is, answered_visits) (omega (arith, trimmed_length w, answered_fits), visits_within (edition_of n) l (trimmed w))
 
-      pub answered_visits : k ≡ visits_under (edition_of n) l (trimmed w)
-      answered_visits = sym (ap visit_count f) ∙ ap visit_count (code_walked (edition_of n) (code_accepted encoded (ap number_of f)) encoded).answer
-
-      -- the rows of its first visits, by the edition that the test tells, are its listing
-      module _ (second : Bool) (ed : Edition) (s : second ≡ is_second ed) (d : ed ≡ edition_of n) (t : List ℕ) (g : t ≡ trimmed w) where
-        edition_is : edition_if second ≡ edition_of n
-        edition_is = ap edition_if s ∙ edition_back ed ∙ d
-
-        pub asks_few : (length t ≤ word_limit) × (k ≤ length (visits_of (edition_if second) t))
-        asks_few = rw (g, edition_is, answered_visits) (omega (arith, trimmed_length w, answered_fits), visits_within (edition_of n) l (trimmed w))
-
-        pub rows_are : first_rows (edition_if second) k t ≡ listing_of (edition_of n) l (trimmed w)
-        unfolding first_rows listing_of
-        rows_are = rw (g, edition_is, answered_visits)
+    pub rows_are : first_rows (edition_if second) x.visits t ≡ listing_of (edition_of n) l (trimmed w)
+    unfolding first_rows listing_of
+    rows_are = rw (g, edition_is, answered_visits)

@@ -2,6 +2,9 @@
 use mathlib.Core.Path.{◌≡◌, sym, ◌∙◌}
 use borrow.Fn.Kinds.{Dens, res_t, ended_of}
 use denote.Triple.Clauses.{AtExit}
+use Rattle.basics.proofs.Choice.{OneResult}
+use Rattle.listing.proofs.Unlisted.place.Kinds as place-kinds
+use Rattle.listing.proofs.Unlisted.place.Reads as place
 use Rattle.listing.proofs.explain.Kinds as explain-kinds
 use Rattle.listing.proofs.explain.Reads as explain
 use contract.Lifetimes.{Lfts}
@@ -14,3 +17,6 @@ module _ (κs : Lfts 2) (a : Dens κs explain-kinds.ps) (x y : (res_t explain-ki
 
   pub one_room : s.1.1.1.0.now ≡ t.1.1.1.0.now
   one_room = p.rows ∙ sym q.rows
+
+pub one_place : OneResult place-kinds.ps place-kinds.r place.Post
+one_place κs a x y s t p q = p ∙ sym q

@@ -3,8 +3,7 @@
 -- byte is at `high` (n where it has none), and a room for `room` rows where `visits` are made.
 use Rattle.std.specs.Prelude.{ℕ, ◌≤◌, ◌<◌, Bool, true, false, ◌↔◌, ◌≡◌}
 use Rattle.terms.specs.Limits.{word_limit}
-use Rattle.listing.specs.declared.Told.{Told}
-use Rattle.listing.specs.Numbers.{number_of, place_of, rows_of}
+use Rattle.listing.specs.Numbers.{Told, number_of, place_of, rows_of}
 
 pub record Given (unknown : Bool) (n high room visits : ℕ) (r : Told) : Type 0 where
   pub seven : (number_of r ≡ 7) ↔ (unknown ≡ true)

@@ -10,7 +10,7 @@ ghost use Rattle.word.specs.Start.{start_of};
 pub fn one_if(test: bool) -> usize
     ensures { result ≡ cond test 1 0 }
 {
-    if test { 1 } else { 0 }
+    usize::from(test)
 }
 
 // The place of the first visit: 1 where the first letter is silent.
@@ -27,12 +27,10 @@ pub fn is_slavo_germanic(w: &[u8]) -> bool
 {
     let mut found = false;
     let mut last = 0;
-    let mut i = 0;
-    while i < w.len() {
-        let b = w[i] | 32;
+    for x in w {
+        let b = *x | 32;
         found = found | ((b == b'w') | (b == b'k') | (b == b'z') & (last == b'c'));
         last = b;
-        i += 1;
     }
     found
 }

@@ -1,19 +1,21 @@
 -- The line of a word, from what the encoder answers under its default limit.
-use Prim.Native.Nat.{ℕ, ◌≤◌, ◌<◌}
-use mathlib.Core.Path.{◌≡◌, sym, ap, subst, ◌∙◌}
+use Prim.Native.Nat.{ℕ, ◌+◌, ◌≤◌, ◌<◌}
+use mathlib.Core.Path.{◌≡◌, refl, sym, ap, subst, ◌∙◌}
 use mathlib.Core.List.{List, [], ◌∷◌, ◌++◌}
 use native.Mathlib.Omega.{arith}
 use borrow.Author.Tests.{lt-ltb, le-ltb}
 use lib.ListN.{length}
 use Rattle.terms.specs.declared.Edition.TheVariants.{E1}
 use Rattle.encoder.specs.declared.Encoder.{Encoder}
-use Rattle.std.specs.Prelude.{Some}
-use Rattle.answers.specs.declared.Answer.{Answer}
-use Rattle.answers.specs.declared.Answer.TheVariants.{Coded}
+use Rattle.std.specs.Prelude.{Some, Ok, Err}
+use Rattle.answers.specs.declared.Coded.{Coded}
+use Rattle.answers.specs.declared.Refusal.{Refusal}
+use Rattle.answers.specs.declared.Refusal.TheVariants.{TooLong, NotAscii, PrimaryShort, AlternateShort}
+use Rattle.answers.specs.Answers.{number_of_refusal}
 use Rattle.trimming.specs.Trim.{trimmed}
 use Rattle.ascii.specs.High.{first_high}
 use Rattle.terms.specs.Limits.{word_limit}
-use Rattle.encoder.specs.Encode.{default_limit, encoder_of, number_of, primary_length, alternate_length, answer_of, primary_of, alternate_of, filled, Encoded}
+use Rattle.encoder.specs.Encode.{Answer, default_limit, encoder_of, number_of, primary_length, alternate_length, answer_of, primary_of, alternate_of, filled, Encoded}
 use Rattle.needs.specs.Needs.{need_of}
 use Rattle.demands.specs.Demand2.{Taken, Walked}
 use Rattle.ascii.proofs.High.{no_high}
@@ -72,10 +74,23 @@ module _ {x : Encoder} {w p a p' a' : List ℕ} {r : Answer} (made : x ≡ encod
   line_by_lem h k s q =
       ap (λ (y : Answer). line_by (number_of y) (primary w) (alternate w)) (sym (by_default.answer ∙ enough w (length p) (length a) h k) ∙ q)
 
-  -- an code-accepted word's codes
-  pub coded : (np na n : ℕ) → r ≡ Coded np na n
-      → (np ≡ length (primary w)) × (na ≡ length (alternate w)) × (p' ≡ filled (primary w) p) × (a' ≡ filled (alternate w) a)
+  -- a code-accepted word's codes
+  pub coded : (c : Coded) → r ≡ Ok c
+      → (c.primary ≡ length (primary w)) × (c.alternate ≡ length (alternate w)) × (p' ≡ filled (primary w) p) × (a' ≡ filled (alternate w) a)
   unfolding primary_of alternate_of
-  coded np na n q =
+  coded c q =
       let x : Walked E1 (Some default_limit) w p a r p' a' = code_walked E1 (code_accepted by_default (ap number_of q)) by_default in
       (ap primary_length (sym q ∙ x.answer), ap alternate_length (sym q ∙ x.answer), x.primary, x.alternate)
+
+-- a refusal's number is one digit, and its line is that
+pub one_digit : (r : Refusal) → number_of_refusal r ≤ 4
+one_digit TooLong = omega arith
+one_digit (NotAscii at) = omega arith
+one_digit PrimaryShort = omega arith
+one_digit AlternateShort = omega arith
+
+pub refused_line : (r : Refusal) (p a : List ℕ) → line_by (number_of_refusal r) p a ≡ 33 ∷ (48 + number_of_refusal r) ∷ 10 ∷ []
+refused_line TooLong p a = refl
+refused_line (NotAscii at) p a = refl
+refused_line PrimaryShort p a = refl
+refused_line AlternateShort p a = refl

@@ -4,7 +4,6 @@
 ghost use Rattle.std.specs.Prelude.{◌≡◌, [], ◌∷◌, ◌+◌, ◌≤◌, length};
 ghost use Rattle.line.specs.Line.{line_of, line_room, Lies};
 
-use answers::Answer;
 use encoder::Encoder;
 
 // The longest line that is written: two codes, a tab and byte 10.
@@ -41,23 +40,16 @@ pub fn build_line(word: &[u8], line: &mut [u8]) -> Span
     line[TAB] = 9;
     let behind = TAB + 1;
     match Encoder::default().encode(word, &mut code, &mut line[behind..]) {
-        Answer::Coded {
-            primary,
-            alternate,
-            visits: _,
-        } => {
-            let start = TAB - primary;
-            copying::copy_to(line, start, &code[..primary]);
-            let end = behind + alternate;
+        Ok(coded) => {
+            let start = TAB - coded.primary;
+            copying::copy_to(line, start, &code[..coded.primary]);
+            let end = behind + coded.alternate;
             line[end] = 10;
             Span {
                 start,
                 end: end + 1,
             }
         }
-        Answer::TooLong => refuse(line, 1),
-        Answer::NotAscii(_) => refuse(line, 2),
-        Answer::PrimaryShort => refuse(line, 3),
-        Answer::AlternateShort => refuse(line, 4),
+        Err(refusal) => refuse(line, u8::from(refusal)),
     }
 }

@@ -6,9 +6,9 @@ use mathlib.Core.Path.{ap, ◌∙◌}
 use native.Mathlib.Omega.{arith}
 use lib.ListN.{length, set, length-set}
 use lib.Seq.{sets}
-use Rattle.answers.specs.declared.Answer.TheVariants as said
+use Rattle.std.specs.Prelude.{Err}
 use Rattle.line.proofs.Place.{lies_in, built}
-use Rattle.line.proofs.Line.{primary, alternate, line_by_lem, coded}
+use Rattle.line.proofs.Line.{primary, alternate, line_by_lem, coded, one_digit, refused_line}
 use Rattle.line.proofs.Codes.{mid, room, mid_long, codes}
 use Rattle.line.proofs.build_line.Goals as goal
 
@@ -20,7 +20,7 @@ overflow_sub-start c =
     let w : List ℕ = c.args.word.now in
     let line : List ℕ = c.args.line.now in
     let e = c.encode in
-    let t = codes w line _ e.new.primary e.new.alternate _ _ c.requires (coded c.default.ensures e.ensures _ _ _ c.in-Coded.is) in
+    let t = codes w line _ e.new.primary e.new.alternate _ _ c.requires (coded c.default.ensures e.ensures _ c.in-Ok.is) in
     let long = mid_long line e.new.alternate c.requires e.auto.alternate in
     t.primary_four
 
@@ -29,7 +29,7 @@ slice_bounds-code-end c =
     let w : List ℕ = c.args.word.now in
     let line : List ℕ = c.args.line.now in
     let e = c.encode in
-    let t = codes w line _ e.new.primary e.new.alternate _ _ c.requires (coded c.default.ensures e.ensures _ _ _ c.in-Coded.is) in
+    let t = codes w line _ e.new.primary e.new.alternate _ _ c.requires (coded c.default.ensures e.ensures _ c.in-Ok.is) in
     let long = mid_long line e.new.alternate c.requires e.auto.alternate in
     omega (arith, t.primary_four, e.auto.primary)
 
@@ -38,7 +38,7 @@ copy_to-requires c =
     let w : List ℕ = c.args.word.now in
     let line : List ℕ = c.args.line.now in
     let e = c.encode in
-    let t = codes w line _ e.new.primary e.new.alternate _ _ c.requires (coded c.default.ensures e.ensures _ _ _ c.in-Coded.is) in
+    let t = codes w line _ e.new.primary e.new.alternate _ _ c.requires (coded c.default.ensures e.ensures _ c.in-Ok.is) in
     let long = mid_long line e.new.alternate c.requires e.auto.alternate in
     omega (arith, long, t.primary_four, t.primary_long, ap length t.code)
 
@@ -47,7 +47,7 @@ overflow_add-end c =
     let w : List ℕ = c.args.word.now in
     let line : List ℕ = c.args.line.now in
     let e = c.encode in
-    let t = codes w line _ e.new.primary e.new.alternate _ _ c.requires (coded c.default.ensures e.ensures _ _ _ c.in-Coded.is) in
+    let t = codes w line _ e.new.primary e.new.alternate _ _ c.requires (coded c.default.ensures e.ensures _ c.in-Ok.is) in
     let long = mid_long line e.new.alternate c.requires e.auto.alternate in
     omega (arith, t.alternate_four)
 
@@ -56,7 +56,7 @@ bounds-line-end c =
     let w : List ℕ = c.args.word.now in
     let line : List ℕ = c.args.line.now in
     let e = c.encode in
-    let t = codes w line _ e.new.primary e.new.alternate _ _ c.requires (coded c.default.ensures e.ensures _ _ _ c.in-Coded.is) in
+    let t = codes w line _ e.new.primary e.new.alternate _ _ c.requires (coded c.default.ensures e.ensures _ c.in-Ok.is) in
     let long = mid_long line e.new.alternate c.requires e.auto.alternate in
     omega (arith, t.alternate_four, long, c.copy_to.auto.out)
 
@@ -65,47 +65,31 @@ overflow_add-result c =
     let w : List ℕ = c.args.word.now in
     let line : List ℕ = c.args.line.now in
     let e = c.encode in
-    let t = codes w line _ e.new.primary e.new.alternate _ _ c.requires (coded c.default.ensures e.ensures _ _ _ c.in-Coded.is) in
+    let t = codes w line _ e.new.primary e.new.alternate _ _ c.requires (coded c.default.ensures e.ensures _ c.in-Ok.is) in
     let long = mid_long line e.new.alternate c.requires e.auto.alternate in
     omega (arith, t.alternate_four)
 
 pub refuse-requires : goal.refuse-requires
-refuse-requires c = (mid_long c.args.line.now c.encode.new.alternate c.requires c.encode.auto.alternate, omega arith)
+refuse-requires c =
+    (mid_long c.args.line.now c.encode.new.alternate c.requires c.encode.auto.alternate, rw c.from.ensures (one_digit c.in-Err.refusal))
 
-pub refuse-requires-in-NotAscii : goal.refuse-requires-in-NotAscii
-refuse-requires-in-NotAscii c = (mid_long c.args.line.now c.encode.new.alternate c.requires c.encode.auto.alternate, omega arith)
-
-pub refuse-requires-in-PrimaryShort : goal.refuse-requires-in-PrimaryShort
-refuse-requires-in-PrimaryShort c = (mid_long c.args.line.now c.encode.new.alternate c.requires c.encode.auto.alternate, omega arith)
-
-pub refuse-requires-in-AlternateShort : goal.refuse-requires-in-AlternateShort
-refuse-requires-in-AlternateShort c = (mid_long c.args.line.now c.encode.new.alternate c.requires c.encode.auto.alternate, omega arith)
-
-pub returns-in-Coded : goal.returns-in-Coded
-returns-in-Coded c =
+pub returns-in-Ok : goal.returns-in-Ok
+returns-in-Ok c =
     let w : List ℕ = c.args.word.now in
     let line : List ℕ = c.args.line.now in
     let e = c.encode in
-    let t = codes w line _ e.new.primary e.new.alternate _ _ c.requires (coded c.default.ensures e.ensures _ _ _ c.in-Coded.is) in
+    let t = codes w line _ e.new.primary e.new.alternate _ _ c.requires (coded c.default.ensures e.ensures _ c.in-Ok.is) in
     let long = mid_long line e.new.alternate c.requires e.auto.alternate in
-    let np : ℕ = c.in-Coded.primary in
-    let na : ℕ = c.in-Coded.alternate in
-    lies_in (line_by_lem c.default.ensures e.ensures (omega arith) (room line c.requires) _ c.in-Coded.is)
+    let np : ℕ = c.in-Ok.coded.primary in
+    let na : ℕ = c.in-Ok.coded.alternate in
+    lies_in (line_by_lem c.default.ensures e.ensures (omega arith) (room line c.requires) _ c.in-Ok.is)
     (ap (λ (l : List ℕ). set l (5 + na) 10) (c.copy_to.ensures ∙ ap (λ (l : List ℕ). sets (mid line e.new.alternate) (4 - np) l) t.code))
     (built line (primary w) (alternate w) (mid line e.new.alternate) np na c.requires long t.primary_long t.alternate_long t.primary_four t.alternate_four t.whole)
 
-pub returns-in-TooLong : goal.returns-in-TooLong
-returns-in-TooLong c =
-    rw (line_by_lem c.default.ensures c.encode.ensures (omega arith) (room c.args.line.now c.requires) said.TooLong c.in-TooLong.is) c.refuse.ensures
-
-pub returns-in-NotAscii : goal.returns-in-NotAscii
-returns-in-NotAscii c =
-    rw (line_by_lem c.default.ensures c.encode.ensures (omega arith) (room c.args.line.now c.requires) (said.NotAscii _) c.in-NotAscii.is) c.refuse-in-NotAscii.ensures
-
-pub returns-in-PrimaryShort : goal.returns-in-PrimaryShort
-returns-in-PrimaryShort c =
-    rw (line_by_lem c.default.ensures c.encode.ensures (omega arith) (room c.args.line.now c.requires) said.PrimaryShort c.in-PrimaryShort.is) c.refuse-in-PrimaryShort.ensures
-
-pub returns-in-AlternateShort : goal.returns-in-AlternateShort
-returns-in-AlternateShort c =
-    rw (line_by_lem c.default.ensures c.encode.ensures (omega arith) (room c.args.line.now c.requires) said.AlternateShort c.in-AlternateShort.is) c.refuse-in-AlternateShort.ensures
+pub returns-in-Err : goal.returns-in-Err
+returns-in-Err c =
+    rw (
+      line_by_lem c.default.ensures c.encode.ensures (omega arith) (room c.args.line.now c.requires) (Err _) c.in-Err.is
+          ∙ refused_line c.in-Err.refusal (primary c.args.word.now) (alternate c.args.word.now),
+      ← c.from.ensures,
+    ) c.refuse.ensures

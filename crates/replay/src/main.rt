@@ -3,8 +3,6 @@
 // it may hold any byte but 10; a code holds neither a tab nor byte 10.
 #![tactic(auto)]
 
-ghost use Rattle.std.specs.Prelude.{◌≤◌, length};
-
 use answers::Answer;
 use chosen::{Choice, chosen};
 use encoder::Encoder;
@@ -12,32 +10,42 @@ use itoa::Buffer;
 use std::io;
 use terms::{CODE_ROOM, Limit};
 
+// A line's parts: the limit, the visits, the codes and the word.
+#[derive(Clone, Copy)]
+struct Stored<'a> {
+    limit: Limit,
+    visits: &'a [u8],
+    primary: &'a [u8],
+    alternate: &'a [u8],
+    word: &'a [u8],
+}
+
+// How many lines the port answers too, and how many it does not.
 #[derive(Clone, Copy)]
 struct Counts {
     right: u64,
     wrong: u64,
 }
 
-// The first place from `from` on that holds `b`, or the length.
-fn find(s: &[u8], from: usize, b: u8) -> usize
-    requires { from ≤ length s.now }
-    ensures { (from ≤ result) × (result ≤ length s.now) }
-{
-    let mut i = from;
-    while i < s.len() {
-        if s[i] == b {
-            return i;
-        }
-        i += 1;
-    }
-    i
+fn limit_of(b: u8) -> Limit {
+    char::from(b).to_digit(10).map(|digit| digit as usize)
 }
 
-fn limit_of(b: u8) -> Limit {
-    match b {
-        b'0'..=b'9' => Some((b - b'0') as usize),
-        _ => None,
-    }
+// Cuts a line at its first four tabs, the first of which stands behind the limit's one byte.
+fn cut(line: &[u8]) -> Option<Stored<'_>> {
+    let (first, rest) = line.split_first()?;
+    let mut parts = rest.strip_prefix(b"\t")?.splitn(4, |b| *b == b'\t');
+    let visits = parts.next()?;
+    let primary = parts.next()?;
+    let alternate = parts.next()?;
+    let word = parts.next()?;
+    Some(Stored {
+        limit: limit_of(*first),
+        visits,
+        primary,
+        alternate,
+        word,
+    })
 }
 
 // Whether `text` is the number in decimal digits.
@@ -47,18 +55,18 @@ fn is_number(text: &[u8], n: usize) -> bool {
 }
 
 // Whether the port's answer for the word is the one that is stored.
-fn is_same(limit: Limit, visits: &[u8], primary: &[u8], alternate: &[u8], word: &[u8]) -> bool {
+fn is_same(stored: Stored<'_>) -> bool {
     let mut p = [0u8; CODE_ROOM];
     let mut a = [0u8; CODE_ROOM];
-    match Encoder::new(limit).encode(word, &mut p, &mut a) {
+    match Encoder::new(stored.limit).encode(stored.word, &mut p, &mut a) {
         Answer::Coded {
             primary: np,
             alternate: na,
             visits: n,
         } => {
-            is_number(visits, n)
-                & (primary == chosen(Choice::Primary, &p, np, &a, na))
-                & (alternate == chosen(Choice::Alternate, &p, np, &a, na))
+            is_number(stored.visits, n)
+                & (stored.primary == chosen(Choice::Primary, &p, np, &a, na))
+                & (stored.alternate == chosen(Choice::Alternate, &p, np, &a, na))
         }
         Answer::TooLong => false,
         Answer::NotAscii(_) => false,
@@ -67,56 +75,21 @@ fn is_same(limit: Limit, visits: &[u8], primary: &[u8], alternate: &[u8], word: 
     }
 }
 
-// Cuts a line at its first four tabs, the first of which stands behind the limit's one byte. A line without them is wrong.
+// A line that has not its four tabs is wrong.
 fn is_right(line: &[u8]) -> bool {
-    if line.len() < 2 {
-        return false;
-    }
-    if line[1] != 9 {
-        return false;
-    }
-    let visits = 2;
-    let two = find(line, visits, 9);
-    if line.len() <= two {
-        return false;
-    }
-    let primary = two + 1;
-    let three = find(line, primary, 9);
-    if line.len() <= three {
-        return false;
-    }
-    let alternate = three + 1;
-    let four = find(line, alternate, 9);
-    if line.len() <= four {
-        return false;
-    }
-    let word = four + 1;
-    is_same(
-        limit_of(line[0]),
-        &line[visits..two],
-        &line[primary..three],
-        &line[alternate..four],
-        &line[word..],
-    )
+    cut(line).is_some_and(is_same)
 }
 
-// 1 for a line that is right. As a number it is added with no branch, and the loop's proof stays short.
-fn score(line: &[u8]) -> u64
-    ensures { result ≤ 1 }
-{
-    if is_right(line) { 1 } else { 0 }
-}
-
+// Byte 10 ends a line, and a last line without it counts.
 fn replay(text: &[u8]) -> Counts {
-    let mut right = 0u64;
-    let mut wrong = 0u64;
-    let mut at = 0;
-    while at < text.len() {
-        let end = find(text, at, 10);
-        let one = score(&text[at..end]);
-        right += one;
-        wrong += 1 - one;
-        at = end + 1;
+    let mut right = 0;
+    let mut wrong = 0;
+    for ended in text.split_inclusive(|b| *b == b'\n') {
+        if is_right(ended.strip_suffix(b"\n").unwrap_or(ended)) {
+            right += 1;
+        } else {
+            wrong += 1;
+        }
     }
     Counts { right, wrong }
 }
@@ -124,8 +97,6 @@ fn replay(text: &[u8]) -> Counts {
 fn main(rt: HostRuntime) -> io::Result<()> {
     let mut text = rooms::mebibyte();
     let n = rooms::read_full(rt.stdin(), &mut text);
-    let r = replay(&text[..n]);
-    let right = r.right;
-    let wrong = r.wrong;
+    let Counts { right, wrong } = replay(&text[..n]);
     println!(rt; "{right} right, {wrong} wrong")
 }

@@ -3,162 +3,133 @@
 // A fault ends the print, and its number, behind `!`, begins the last line.
 #![tactic(auto)]
 
-ghost use Rattle.std.specs.Prelude.{◌≤◌};
+use entry::Record;
+use header::{Cursor, Header};
+use std::io::{Read, Stdin, Stdout};
+use std::{fmt, io};
 
-use entry::Step;
-use header::{Cursor, Header, Opened};
-use slices::Span;
-use std::io::{Read, Stdout};
-
-// Each of these answers whether all was written. The first write that fails ends the print, and `main` tells of it.
-fn put(output: Stdout, bytes: &[u8]) -> bool {
-    output.write_all(bytes).is_ok()
+// What keeps a book from being printed to its end.
+#[derive(Clone, Copy, Debug, PartialEq, Eq)]
+enum Failure {
+    CannotRead,
+    CannotWrite,
+    TooLong,
 }
 
-fn put_number(output: Stdout, n: u64) -> bool {
-    output.print(n).is_ok()
-}
-
-fn put_limit(output: Stdout, cut: u32) -> bool {
-    if cut == 0 {
-        return put(output, b"no limit");
+impl fmt::Display for Failure {
+    fn fmt<W: fmt::Write>(&self, f: &mut fmt::Formatter<W>) -> fmt::Result {
+        f.write_str(match self {
+            Failure::CannotRead => "cannot read",
+            Failure::CannotWrite => "cannot write",
+            Failure::TooLong => "the book is longer than 1,048,576 bytes",
+        })
     }
-    put(output, b"limit ") && put_number(output, (cut - 1) as u64)
 }
 
-fn put_header(output: Stdout, h: Header) -> bool {
-    put(output, b"format ")
-        && put_number(output, h.format as u64)
-        && put(output, b", edition ")
-        && put_number(output, h.edition as u64)
-        && put(output, b", ")
-        && put_limit(output, h.cut)
-        && put(output, b"\n")
-}
+// A header's cut: 0 for no limit, else the limit plus 1.
+#[derive(Clone, Copy)]
+struct Cut(u32);
 
-// What stands behind a record: nothing for a live one.
-fn put_kind(output: Stdout, kind: u32) -> bool {
-    if kind == 1 {
-        return put(output, b"\n");
+impl fmt::Display for Cut {
+    fn fmt<W: fmt::Write>(&self, f: &mut fmt::Formatter<W>) -> fmt::Result {
+        match header::limit_of(self.0) {
+            None => f.write_str("no limit"),
+            Some(limit) => write!(f, "limit {limit}"),
+        }
     }
-    put(output, b"\tclosed\n")
+}
+
+// How many records there are.
+#[derive(Clone, Copy)]
+struct Records(u64);
+
+impl fmt::Display for Records {
+    fn fmt<W: fmt::Write>(&self, f: &mut fmt::Formatter<W>) -> fmt::Result {
+        match self.0 {
+            1 => f.write_str("1 record"),
+            n => write!(f, "{n} records"),
+        }
+    }
+}
+
+// How many of them are closed, if any is.
+#[derive(Clone, Copy)]
+struct Closed(u64);
+
+impl fmt::Display for Closed {
+    fn fmt<W: fmt::Write>(&self, f: &mut fmt::Formatter<W>) -> fmt::Result {
+        match self.0 {
+            0 => Ok(()),
+            n => write!(f, ", {n} closed"),
+        }
+    }
+}
+
+// The first write that fails ends the print, and `main` tells of it.
+fn put_header(output: Stdout, h: Header) -> io::Result<()> {
+    println!(output;
+        "format {}, edition {}, {}",
+        h.format,
+        h.edition,
+        Cut(h.cut)
+    )
 }
 
 // The bytes of a name and of the codes go out as they are.
-fn put_record(
-    output: Stdout,
-    s: &[u8],
-    station: u32,
-    name: Span,
-    primary: Span,
-    alternate: Span,
-    kind: u32,
-) -> bool {
-    put_number(output, station as u64)
-        && put(output, b"\t")
-        && put(output, slices::bytes_of(s, name))
-        && put(output, b"\t")
-        && put(output, slices::bytes_of(s, primary))
-        && put(output, b"\t")
-        && put(output, slices::bytes_of(s, alternate))
-        && put_kind(output, kind)
-}
-
-fn put_count(output: Stdout, n: u64) -> bool {
-    if n == 1 {
-        return put(output, b"1 record");
+fn put_record(output: Stdout, s: &[u8], record: Record) -> io::Result<()> {
+    output.print(record.station)?;
+    for part in [record.name, record.primary, record.alternate] {
+        output.write_all(b"\t")?;
+        output.write_all(slices::bytes_of(s, part))?;
     }
-    put_number(output, n) && put(output, b" records")
-}
-
-fn put_closed(output: Stdout, n: u64) -> bool {
-    if n == 0 {
-        return put(output, b"\n");
-    }
-    put(output, b", ") && put_number(output, n) && put(output, b" closed\n")
-}
-
-fn put_fault(output: Stdout, f: u8) -> bool {
-    put(output, b"!") && put_number(output, f as u64)
-}
-
-fn put_fault_after(output: Stdout, f: u8, count: u64) -> bool {
-    put_fault(output, f)
-        && put(output, b" after ")
-        && put_count(output, count)
-        && put(output, b"\n")
-}
-
-// 1 for a closed record, which is what a count of them grows by.
-fn closed_one(kind: u32) -> u64
-    ensures { result ≤ 1 }
-{
-    if kind == 1 { 0 } else { 1 }
+    output.print(if record.kind == 1 { "\n" } else { "\tclosed\n" })
 }
 
 // The records from a cursor on, to the end or to the first fault.
-fn put_records(output: Stdout, s: &[u8], header: Header, first: Cursor) -> bool {
-    let format = header.format;
-    let edition = header.edition;
+fn put_records(output: Stdout, s: &[u8], header: Header, first: Cursor) -> io::Result<()> {
     let mut cursor = first;
-    let mut count: u64 = 0;
-    let mut closed: u64 = 0;
+    let mut count = 0;
+    let mut closed = 0;
     loop {
-        let step = book::next(s, format, edition, cursor);
-        match step {
-            Step::Record {
-                station,
-                name,
-                primary,
-                alternate,
-                next,
-                kind,
-            } => {
-                if !put_record(output, s, station, name, primary, alternate, kind) {
-                    return false;
-                }
-                cursor = next;
+        match book::next(s, header.format, header.edition, cursor) {
+            Ok(Some(record)) => {
+                put_record(output, s, record)?;
+                cursor = record.next;
                 count += 1;
-                closed += closed_one(kind);
+                closed += u64::from(record.kind != 1);
             }
-            Step::End => {
-                return put_count(output, count) && put_closed(output, closed);
-            }
-            Step::Fault(f) => {
-                return put_fault_after(output, f, count);
+            Ok(None) => return println!(output; "{}{}", Records(count), Closed(closed)),
+            Err(fault) => {
+                return println!(output; "!{} after {}", u8::from(fault), Records(count));
             }
         }
     }
 }
 
-fn put_book(output: Stdout, s: &[u8]) -> bool {
-    let opened = header::open(s, 1);
-    match opened {
-        Opened::Book { header, first } => put_header(output, header)
-            && put_records(output, s, header, first),
-        Opened::Fault(f) => put_fault(output, f) && put(output, b" in the header\n"),
+fn put_book(output: Stdout, s: &[u8]) -> io::Result<()> {
+    match header::open(s, 1) {
+        Ok(opened) => {
+            put_header(output, opened.header)?;
+            put_records(output, s, opened.header, opened.first)
+        }
+        Err(fault) => println!(output; "!{} in the header", u8::from(fault)),
     }
 }
 
 // The first read ends at a full room, at the end or at a read that fails; one byte more tells which it was.
-fn main(rt: HostRuntime) {
-    let mut input = rt.stdin();
-    let output = rt.stdout();
-    let errors = rt.stderr();
+fn print_input(input: Stdin, output: Stdout) -> Result<(), Failure> {
     let mut text = rooms::mebibyte();
     let mut behind = [0u8; 1];
     let n = rooms::read_full(input, &mut text);
-    match input.read(&mut behind) {
-        Err(_) => {
-            let _ = errors.write_all(b"stations: cannot read\n");
-        }
-        Ok(0) => {
-            if !put_book(output, &text[..n]) {
-                let _ = errors.write_all(b"stations: cannot write\n");
-            }
-        }
-        Ok(_) => {
-            let _ = errors.write_all(b"stations: the book is longer than 1,048,576 bytes\n");
-        }
+    let mut from = input;
+    if from.read(&mut behind).map_err(|_| Failure::CannotRead)? > 0 {
+        return Err(Failure::TooLong);
+    }
+    put_book(output, &text[..n]).map_err(|_| Failure::CannotWrite)
+}
+
+fn main(rt: HostRuntime) {
+    if let Err(failure) = print_input(rt.stdin(), rt.stdout()) {
+        let _ = eprintln!(rt; "stations: {failure}");
     }
 }

@@ -2,8 +2,8 @@
 use Rattle.std.proofs.Common.{◌≤◌, ◌-◌, length}
 use Rattle.stations.proofs.put_records.Given as goal
 
-abbrev pub invariant-loop-station : goal.invariant-loop-station
-invariant-loop-station l = (l.count ≤ l.cursor.at) × (l.closed ≤ l.count)
+abbrev pub invariant-loop-record : goal.invariant-loop-record
+invariant-loop-record l = (l.count ≤ l.cursor.at) × (l.closed ≤ l.count)
 
-abbrev pub decreases-loop-station : goal.decreases-loop-station
-decreases-loop-station l = length l.initial.s - l.cursor.at
+abbrev pub decreases-loop-record : goal.decreases-loop-record
+decreases-loop-record l = length l.initial.s - l.cursor.at

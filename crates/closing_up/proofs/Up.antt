@@ -1,12 +1,11 @@
 -- Copying down within a list, and closing up.
 use Prim.Native.Nat.{ℕ, suc, ◌+◌, ◌-◌, ◌≤◌, ◌<◌}
-use mathlib.Core.Path.{◌≡◌, refl, sym, ap, ◌∙◌}
+use mathlib.Core.Path.{◌≡◌, refl, sym, ap, ◌∙◌, subst}
 use mathlib.Core.List.{List, [], ◌∷◌, ◌++◌}
 use native.Mathlib.Omega.{arith}
 use lib.ListN.{length, take, drop, set, length-append, length-drop}
 use lib.Seq.{sets, length-sets, drop-drop, drop_at, drop-set-lt, length-take-le, take-add, take-take}
 use Rattle.number.specs.Septets.{Bytes}
-use Rattle.slices.specs.declared.Span.{Span}
 use Rattle.fields.specs.Got.{Got, good, bad}
 use Rattle.fields.specs.Put.{Put}
 use Rattle.basics.proofs.Sets.{sets_append}
@@ -14,14 +13,16 @@ use Rattle.fields.proofs.Law.{bytes_drop, bytes_take}
 use Rattle.header.specs.declared.Cursor.{Cursor}
 use Rattle.entry.specs.Entry.{Entry, entry_bytes, read_entry, above}
 use Rattle.book.specs.Book.{read_entries, live_bytes}
-use Rattle.entry.specs.Told.{step_at}
+use Rattle.entry.specs.Told.{record_at}
 use Rattle.entry.proofs.Entry.{entry_law, some_entry}
-use Rattle.entry.proofs.Kind.{step_told, step_fault}
+use Rattle.entry.proofs.Kind.{record_told, record_fault}
 use Rattle.book.proofs.Entries.{behind, first_good, none_behind}
 use Rattle.book.proofs.Measured.{live_kept, live_passed, none_live}
 use Rattle.book.specs.Told.{AllGood}
 use Rattle.closing_up.specs.Up.{entries_in, live_of}
-use Rattle.entry.specs.declared.Step.TheVariants as step
+use Rattle.entry.specs.declared.Record as told
+use Rattle.std.specs.Prelude.{Ok, Err}
+use Rattle.terms.specs.declared.Fault.{Fault}
 
 -- ---- parts of lists
 pub drop_take : (k len : ℕ) (l : List ℕ) → k ≤ len → len ≤ length l → drop k (take len l) ≡ take (len - k) (drop k l)
@@ -35,18 +36,18 @@ drop_sets (v ∷ vs) l i k h = drop_sets vs (set l i v) (suc i) k (omega arith) 
 
 -- ---- CLOSING UP: how far it has come. `room` is what is held. What is still to be read is as it was; storing what is left of the live entries gives what storing all
 -- of them gives.
-pub record Upto (room₀ : List ℕ) (len format from : ℕ) (room : List ℕ) (at to floor : ℕ) : Type 0 where
-  pub low : to ≤ at
-  pub high : at ≤ len
+pub record Upto (room₀ : List ℕ) (len format from : ℕ) (room : List ℕ) (c : Cursor) (to : ℕ) : Type 0 where
+  pub low : to ≤ c.at
+  pub high : c.at ≤ len
   pub long : length room ≡ length room₀
-  pub ahead : drop at room ≡ drop at room₀
+  pub ahead : drop c.at room ≡ drop c.at room₀
   pub es : List Entry
   pub n : ℕ
-  pub reads : read_entries format floor (drop at (take len room₀)) ≡ good es n
+  pub reads : read_entries format c.floor (drop c.at (take len room₀)) ≡ good es n
   pub stored : sets room to (live_bytes format es) ≡ sets room₀ from (live_of format (entries_in format room₀ len from))
   pub sum : to + length (live_bytes format es) ≡ from + length (live_of format (entries_in format room₀ len from))
 
-pub upto_start : (room₀ : List ℕ) (len format from : ℕ) → from ≤ len → AllGood (entries_in format room₀ len from) → Upto room₀ len format from room₀ from from 0
+pub upto_start : (room₀ : List ℕ) (len format from : ℕ) → from ≤ len → AllGood (entries_in format room₀ len from) → Upto room₀ len format from room₀ (record { at = from; floor = 0 }) from
 upto_start room₀ len format from h x = record {
   low = omega arith;
   high = h;
@@ -59,7 +60,13 @@ upto_start room₀ len format from h x = record {
   sum = ap (λ (y : Got (List Entry)). from + length (live_of format y)) (sym x.is);
 }
 
-module _ (room₀ : List ℕ) (len format from : ℕ) (fits : len ≤ length room₀) (room : List ℕ) (at to floor : ℕ) (x : Upto room₀ len format from room at to floor) where
+module _ (room₀ : List ℕ) (len format from : ℕ) (fits : len ≤ length room₀) (room : List ℕ) (c : Cursor) (to : ℕ) (x : Upto room₀ len format from room c to) where
+  abbrev at : ℕ
+  at = c.at
+
+  abbrev floor : ℕ
+  floor = c.floor
+
   abbrev l₀ : List ℕ
   l₀ = drop at (take len room₀)
 
@@ -83,31 +90,31 @@ module _ (room₀ : List ℕ) (len format from : ℕ) (fits : len ≤ length roo
       record { next = omega (arith, x.sum, ap length b); leaves = sym (ap (sets room to) b) ∙ x.stored }
 
   module _ (h : at < len) where
-    pub upto_never : {B : Type 0} (f : ℕ) → step_at format at (read_entry format floor (drop at (take len room))) ≡ step.Fault f → B
+    pub upto_never : {B : Type 0} (f : Fault) → record_at format at (read_entry format floor (drop at (take len room))) ≡ Err f → B
     upto_never f p =
-        let q : read_entry format floor (drop at (take len room)) ≡ bad f = step_fault format at f (read_entry format floor (drop at (take len room))) p in
+        let q : read_entry format floor (drop at (take len room)) ≡ bad f = record_fault format at f (read_entry format floor (drop at (take len room))) p in
         first_good format floor l₀ f x.es x.n (omega (arith, ahead_length)) (ap (read_entry format floor) (sym same_ahead) ∙ q) x.reads
 
-    pub record Turn (k : ℕ) (cur : Cursor) : Type 0 where
+    pub record Turn (r : told.Record) : Type 0 where
       pub e : Entry
       pub es' : List Entry
       pub m : ℕ
-      pub rises : at < cur.at
-      pub within : cur.at ≤ len
-      pub kind : k ≡ e.kind
-      pub reads : read_entries format cur.floor (drop cur.at (take len room₀)) ≡ good es' m
+      pub rises : at < r.next.at
+      pub within : r.next.at ≤ len
+      pub kind : r.kind ≡ e.kind
+      pub reads : read_entries format r.next.floor (drop r.next.at (take len room₀)) ≡ good es' m
       pub all : x.es ≡ e ∷ es'
-      pub size : length (entry_bytes format e) ≡ cur.at - at
-      pub bytes : Bytes room₀ → take (cur.at - at) (drop at room) ≡ entry_bytes format e
+      pub size : length (entry_bytes format e) ≡ r.next.at - at
+      pub bytes : Bytes room₀ → take (r.next.at - at) (drop at room) ≡ entry_bytes format e
 
-    pub turn : (v : ℕ) (sn sp sa : Span) (cur : Cursor) (k : ℕ) → step_at format at (read_entry format floor (drop at (take len room))) ≡ step.Record v sn sp sa cur k → Turn k cur
-    turn v sn sp sa cur k p =
-        let t = step_told format at v sn sp sa cur k (read_entry format floor (drop at (take len room))) p in
+    pub turn : (r : told.Record) → record_at format at (read_entry format floor (drop at (take len room))) ≡ Ok r → Turn r
+    turn r p =
+        let t = record_told format at r (read_entry format floor (drop at (take len room))) p in
         let q : read_entry format floor l₀ ≡ good t.e t.n = ap (read_entry format floor) (sym same_ahead) ∙ t.is in
         let u : t.n ≡ length (entry_bytes format t.e) = (entry_law format floor).used l₀ t.e t.n q in
         let w : t.n ≤ length l₀ = (entry_law format floor).within l₀ t.e t.n q in
         let y = behind format floor l₀ t.e t.n x.es x.n q x.reads in
-        let n : cur.at - at ≡ t.n = omega (arith, t.place) in
+        let n : r.next.at - at ≡ t.n = omega (arith, t.place) in
         record {
           e = t.e;
           es' = y.es';
@@ -124,15 +131,15 @@ module _ (room₀ : List ℕ) (len format from : ℕ) (fits : len ≤ length roo
               ∙ (entry_law format floor).only l₀ (bytes_drop at (take len room₀) (bytes_take len room₀ bs)) t.e t.n q;
         }
 
-    module _ (k : ℕ) (cur : Cursor) (t : Turn k cur) where
-      pub upto_passed : (k ≡ 1 → ⊥) → Upto room₀ len format from room cur.at to cur.floor
-      upto_passed z =
+    module _ (r : told.Record) (t : Turn r) where
+      passed : (r.kind ≡ 1 → ⊥) → Upto room₀ len format from room r.next to
+      passed z =
           let b : live_bytes format x.es ≡ live_bytes format t.es' = ap (live_bytes format) t.all ∙ live_passed format t.e t.es' (λ y. z (t.kind ∙ y)) in
           record {
             low = omega (arith, x.low, t.rises);
             high = t.within;
             long = x.long;
-            ahead = ahead_on cur.at (omega (arith, t.rises));
+            ahead = ahead_on r.next.at (omega (arith, t.rises));
             es = t.es';
             n = t.m;
             reads = t.reads;
@@ -140,20 +147,31 @@ module _ (room₀ : List ℕ) (len format from : ℕ) (fits : len ≤ length roo
             sum = sym (ap (λ (j : List ℕ). to + length j) b) ∙ x.sum;
           }
 
-      pub upto_kept : Bytes room₀ → k ≡ 1 → (room' : List ℕ) → room' ≡ sets room to (take (cur.at - at) (drop at room)) → Upto room₀ len format from room' cur.at (to + (cur.at - at)) cur.floor
-      upto_kept bs z room' d =
+      kept : Bytes room₀ → r.kind ≡ 1 → (room' : List ℕ) → room' ≡ sets room to (take (r.next.at - at) (drop at room)) → Upto room₀ len format from room' r.next (to + (r.next.at - at))
+      kept bs z room' d =
           let w : List ℕ = entry_bytes format t.e in
           let b : live_bytes format x.es ≡ w ++ live_bytes format t.es' = ap (live_bytes format) t.all ∙ live_kept format t.e t.es' (sym t.kind ∙ z) in
-          let c : room' ≡ sets room to w = d ∙ ap (sets room to) (t.bytes bs) in
-          let s : to + (cur.at - at) ≡ to + length w = omega (arith, t.size) in
+          let u : room' ≡ sets room to w = d ∙ ap (sets room to) (t.bytes bs) in
+          let s : to + (r.next.at - at) ≡ to + length w = omega (arith, t.size) in
           record {
             low = omega (arith, x.low, t.rises);
             high = t.within;
-            long = ap length c ∙ length-sets room to w ∙ x.long;
-            ahead = ap (drop cur.at) c ∙ drop_sets w room to cur.at (omega (arith, x.low, t.rises, t.size)) ∙ ahead_on cur.at (omega (arith, t.rises));
+            long = ap length u ∙ length-sets room to w ∙ x.long;
+            ahead = ap (drop r.next.at) u ∙ drop_sets w room to r.next.at (omega (arith, x.low, t.rises, t.size)) ∙ ahead_on r.next.at (omega (arith, t.rises));
             es = t.es';
             n = t.m;
             reads = t.reads;
-            stored = (λ i. sets (c i) (s i) (live_bytes format t.es')) ∙ sets_append w room (live_bytes format t.es') to ∙ sym (ap (sets room to) b) ∙ x.stored;
+            stored = (λ i. sets (u i) (s i) (live_bytes format t.es')) ∙ sets_append w room (live_bytes format t.es') to ∙ sym (ap (sets room to) b) ∙ x.stored;
             sum = omega (arith, x.sum, ap length b, length-append w (live_bytes format t.es'), t.size);
           }
+
+      module _ (room' : List ℕ) (to' : ℕ) where
+        -- the same, of what the two paths leave
+        left_as : (q : List ℕ) (k : ℕ) → Upto room₀ len format from q r.next k → room' ≡ q → to' ≡ k → Upto room₀ len format from room' r.next to'
+        left_as q k y e f = subst (λ (j : ℕ). Upto room₀ len format from room' r.next j) (sym f) (subst (λ (l : List ℕ). Upto room₀ len format from l r.next k) (sym e) y)
+
+        pub upto_passed : (r.kind ≡ 1 → ⊥) → room' ≡ room → to' ≡ to → Upto room₀ len format from room' r.next to'
+        upto_passed z = left_as room to (passed z)
+
+        pub upto_kept : Bytes room₀ → r.kind ≡ 1 → room' ≡ sets room to (take (r.next.at - at) (drop at room)) → to' ≡ to + (r.next.at - at) → Upto room₀ len format from room' r.next to'
+        upto_kept bs z = left_as (sets room to (take (r.next.at - at) (drop at room))) (to + (r.next.at - at)) (kept bs z _ refl)

@@ -12,6 +12,6 @@ pub one_add_coded : OneResult add-coded-kinds.ps add-coded-kinds.r add-coded.Pos
 one_add_coded κs a x y s t p q = p.answer ∙ sym q.answer
 
 -- the room at exit
-module _ (κs : Lfts 4) (a : Dens κs add-coded-kinds.ps) (x y : (res_t add-coded-kinds.r κs).Denot) (s t : AtExit (ended_of 4 add-coded-kinds.ps add-coded-kinds.r) κs) where
+module _ (κs : Lfts 2) (a : Dens κs add-coded-kinds.ps) (x y : (res_t add-coded-kinds.r κs).Denot) (s t : AtExit (ended_of 2 add-coded-kinds.ps add-coded-kinds.r) κs) where
   pub one_add_coded_room : add-coded.Post κs a x s → add-coded.Post κs a y t → s.0.now ≡ t.0.now
   one_add_coded_room p q = p.leaves ∙ sym q.leaves

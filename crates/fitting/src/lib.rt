@@ -2,54 +2,30 @@
 // behind the book closed up. A refusal changes nothing.
 #![tactic(auto)]
 
-ghost use Rattle.std.specs.Prelude.{◌≤◌, length};
-ghost use Rattle.terms.specs.Limits.{word_limit, code_room};
+ghost use Rattle.putting.specs.New.{Short};
 ghost use Rattle.fitting.specs.Base.{Stands, CodedAdded};
 
-use book::Measure;
-use header::Header;
-use number::LARGEST;
-use putting::{Made, put_entry};
-use terms::{BAD_NUMBER, NO_ROOM, NOT_ABOVE};
+use book::Whole;
+use putting::{Made, NewRecord};
+use terms::Fault;
 
 // Adds a record whose codes are made to the book that stands in the first `len` bytes of the room. Where it does not fit, the book is closed
 // up first.
-pub fn add_coded(
-    room: &mut [u8],
-    len: usize,
-    header: Header,
-    first: usize,
-    measure: Measure,
-    station: u64,
-    name: &[u8],
-    primary: &[u8],
-    alternate: &[u8],
-) -> Made
-    requires { Stands room.old len header first measure × (length name.now ≤ word_limit) × (length primary.now ≤ code_room) × (length alternate.now ≤ code_room) }
-    ensures { CodedAdded room.old len station name.now primary.now alternate.now result room.new }
+pub fn add_coded(room: &mut [u8], len: usize, whole: Whole, new: NewRecord) -> Made
+    requires { Stands room.old len whole × Short new }
+    ensures { CodedAdded room.old len new.entry result room.new }
 {
-    if LARGEST < station {
-        return Made::Fault(BAD_NUMBER);
-    }
-    let number = station as u32;
-    let format = header.format;
-    let floor = measure.floor;
-    let least = measure.least;
-    let live = measure.size;
-    let size = putting::entry_size(format, number, name, primary, alternate);
+    let format = whole.header.format;
+    let measure = whole.measure;
+    let size = new.entry_size(format);
     if size <= room.len() - len {
-        if number < floor {
-            return Made::Fault(NOT_ABOVE);
-        }
-        return Made::Length(put_entry(room, len, format, number, name, primary, alternate));
+        return placing::append_coded(room, len, format, measure.floor, new);
     }
-    if number < least {
-        return Made::Fault(NOT_ABOVE);
-    }
-    let base = first + live;
+    placing::station_from(measure.least, new.station)?;
+    let base = whole.first + measure.size;
     if room.len() - base < size {
-        return Made::Fault(NO_ROOM);
+        return Err(Fault::NoRoom);
     }
-    closing_up::close_up(room, len, format, first);
-    Made::Length(put_entry(room, base, format, number, name, primary, alternate))
+    closing_up::close_up(room, len, format, whole.first);
+    Ok(new.put_entry(room, base, format))
 }

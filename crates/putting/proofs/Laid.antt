@@ -19,10 +19,6 @@ use Rattle.putting.specs.Laid.{unless, Placed}
 use Rattle.putting.specs.New.{new_record, new_entry, Short}
 
 -- ---- answers
-pub unless_err : (g : Option Fault) (n : ℕ) (f : Fault) → Err f ≡ unless g n → Some f ≡ g
-unless_err None n f e = let z : ◌≡◌ {A = ℕ} 0 1 = cc in absurd (omega arith)
-unless_err (Some g) n f e = let z : f ≡ g = cc in ap (λ (k : Fault). Some k) z
-
 pub unless_ok : (g : Option Fault) (n m : ℕ) → Ok m ≡ unless g n → None ≡ g
 unless_ok None n m e = refl
 unless_ok (Some g) n m e = let z : ◌≡◌ {A = ℕ} 0 1 = cc in absurd (omega arith)

@@ -3,8 +3,8 @@ use Prim.Native.Nat.{◌-◌}
 use Rattle.closing_up.proofs.Up.{Upto}
 use Rattle.closing_up.proofs.close_up.Given as goal
 
-abbrev pub invariant-loop-at : goal.invariant-loop-at
-invariant-loop-at l = Upto l.initial.room l.len l.format l.from l.room l.at l.to l.floor
+abbrev pub invariant-loop-cursor : goal.invariant-loop-cursor
+invariant-loop-cursor l = Upto l.initial.room l.len l.format l.from l.room l.cursor l.to
 
-abbrev pub decreases-loop-at : goal.decreases-loop-at
-decreases-loop-at l = l.len - l.at
+abbrev pub decreases-loop-cursor : goal.decreases-loop-cursor
+decreases-loop-cursor l = l.len - l.cursor.at

@@ -4,8 +4,8 @@ use lib.ListN.{length}
 use Rattle.finding.proofs.Seeking.{Seeking}
 use Rattle.finding.proofs.find_live.Given as goal
 
-abbrev pub invariant-loop-at : goal.invariant-loop-at
-invariant-loop-at l = Seeking l.s l.format l.station l.from l.at l.floor
+abbrev pub invariant-loop-cursor : goal.invariant-loop-cursor
+invariant-loop-cursor l = Seeking l.s l.format l.station l.from l.cursor
 
-abbrev pub decreases-loop-at : goal.decreases-loop-at
-decreases-loop-at l = length l.s - l.at
+abbrev pub decreases-loop-cursor : goal.decreases-loop-cursor
+decreases-loop-cursor l = length l.s - l.cursor.at

@@ -1,16 +1,19 @@
 -- A new record: its name is encoded under the header's edition and cut; its faults, in the request's order.
-use Rattle.std.specs.Prelude.{ℕ, cond, List, ltb, length}
-use Rattle.terms.specs.Refusals.{too_long, not_ascii}
+use Rattle.std.specs.Prelude.{ℕ, ◌≡◌, cond, List, ltb, length, Option, Some, None, Result, Ok, Err}
+use Rattle.terms.specs.declared.Fault.{Fault}
+use Rattle.terms.specs.declared.Fault.TheVariants.{TooLong, NotAscii}
 use Rattle.chosen.specs.declared.Choice.{Choice}
 use Rattle.chosen.specs.declared.Choice.TheVariants.{Primary, Alternate}
 use Rattle.ascii.specs.High.{first_high}
 use Rattle.terms.specs.Limits.{word_limit}
 use Rattle.terms.specs.Editions.{edition_of}
 use Rattle.demands.specs.Code.{code_of}
+use Rattle.fields.specs.Field.{first}
 use Rattle.header.specs.declared.Header.{Header}
 use Rattle.entry.specs.Entry.{Record, Entry, entry_bytes}
 use Rattle.header.specs.Head.{limit_of}
-use Rattle.putting.specs.Laid.{record_with}
+use Rattle.putting.specs.declared.NewRecord.{NewRecord}
+use Rattle.putting.specs.New.{record_with, entry_with, new_record, Short}
 use Rattle.placing.specs.Placing.{station_fault}
 
 -- ---- a new record: its name is encoded under the header's edition and cut
@@ -26,7 +29,20 @@ keyed_entry h station name = record { kind = 1; body = keyed h station name }
 unfoldable pub new_bytes : Header → ℕ → List ℕ → List ℕ
 new_bytes h station name = entry_bytes h.format (keyed_entry h station name)
 
--- 1 and 2 of the name, then those of the station; 9, of the room, comes last
-abbrev pub new_fault : ℕ → ℕ → List ℕ → ℕ
-new_fault floor station name =
-    cond (ltb word_limit (length name)) too_long (cond (ltb (first_high name) (length name)) not_ascii (station_fault floor station))
+-- the faults of a name
+abbrev pub name_fault : List ℕ → Option Fault
+name_fault name = cond (ltb word_limit (length name)) (Some TooLong) (cond (ltb (first_high name) (length name)) (Some NotAscii) None)
+
+-- those of the name, then those of the station; `NoRoom` comes last
+abbrev pub new_fault : ℕ → ℕ → List ℕ → Option Fault
+new_fault floor station name = first (name_fault name) (station_fault floor station)
+
+-- ---- what making one's codes answers
+pub record Keys (h : Header) (station : ℕ) (name : List ℕ) (v : NewRecord) : Type 0 where
+  pub accepted : name_fault name ≡ None
+  pub is : new_record v ≡ keyed h station name
+  pub short : Short v
+
+abbrev pub Keyed : Header → ℕ → List ℕ → Result NewRecord Fault → Type 0
+Keyed h station name (Ok v) = Keys h station name v
+Keyed h station name (Err f) = name_fault name ≡ Some f

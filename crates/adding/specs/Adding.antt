@@ -3,11 +3,11 @@
 use Rattle.std.specs.Prelude.{ℕ, List}
 use Rattle.fields.specs.Got.{Got}
 use Rattle.book.specs.Book.{Book}
-use Rattle.putting.specs.declared.Made.{Made}
+use Rattle.putting.specs.Laid.{Made}
 use Rattle.keying.specs.Keyed.{new_bytes, new_fault}
 use Rattle.fitting.specs.Base.{add_answer, add_leaves, AddedAs}
 
--- 1, 2, 5, 8, then 9
+-- the faults of the name, of the station, then of the room
 abbrev pub added_by : List ℕ → ℕ → ℕ → List ℕ → Got Book → Made
 added_by room len station name x = add_answer (λ floor. new_fault floor station name) (λ h. new_bytes h station name) room len x
 

@@ -1,18 +1,16 @@
 -- `adding::add` meets its contract.
-use mathlib.Core.Path.{sym, ◌∙◌}
-use Rattle.keying.specs.Keyed.{new_bytes, new_fault}
-use Rattle.adding.proofs.Adding.{add_unread, add_stands}
+use mathlib.Core.Path.{sym}
+use native.Mathlib.Omega.{arith}
+use Rattle.fields.proofs.Law.{bytes}
+use Rattle.adding.proofs.Adding.{stands, coded_added}
 use Rattle.adding.proofs.add.Goals as goal
 
-pub add_under-requires : goal.add_under-requires
-add_under-requires c =
+pub add_coded-requires : goal.add_coded-requires
+add_coded-requires c =
     let a = c.args in
-    add_stands a.room.now a.len _ _ _ (sym c.read_in-whole.ensures ∙ c.in-Book.is)
+    (stands a.room.now a.len a.station a.name.now _ (sym c.in_ok-whole.ensures), c.in_ok-new.ensures.short)
 
-pub returns-in-Book : goal.returns-in-Book
-returns-in-Book c = c.add_under.ensures
-
-pub returns-in-Fault : goal.returns-in-Fault
-returns-in-Fault c =
+pub returns : goal.returns
+returns c =
     let a = c.args in
-    add_unread a.room.now a.len (λ floor. new_fault floor a.station a.name.now) (λ h. new_bytes h a.station a.name.now) _ (sym c.read_in-whole.ensures ∙ c.in-Fault.is)
+    coded_added a.room.now a.len a.station a.name.now _ (sym c.in_ok-whole.ensures) (bytes a.room.now (λ i. omega (arith, c.slice_known-1.given i))) _ c.in_ok-new.ensures _ _ c.add_coded.ensures

@@ -1,34 +1,30 @@
 -- `appending::append` meets its contract.
-use mathlib.Core.Path.{sym, ap, ◌∙◌}
+use mathlib.Core.Path.{sym, ap}
 use native.Mathlib.Omega.{arith}
-use lib.ListN.{length}
+use Rattle.std.proofs.lemmas.Result.{err_from_is_err_and}
 use Rattle.appending.specs.Ended.{behind}
-use Rattle.appending.proofs.Ends.{end_fits, appended_not, appended, station_small}
+use Rattle.appending.proofs.Ends.{appended, coded_placed, station_small}
 use Rattle.appending.proofs.append.Goals as goal
 
-pub returns-then-fault-ne0 : goal.returns-then-fault-ne0
-returns-then-fault-ne0 c =
-    let a = c.args in appended_not a.room.now a.end a.station a.name.now _ c.end_fault-fault.ensures c.if-fault-ne0.true
-
-pub append_under-made-requires : goal.append_under-made-requires
-append_under-made-requires c = end_fits c.args.end (length c.args.room.now) (sym c.end_fault-fault.ensures ∙ c.if-fault-ne0.false)
+pub returns-in_err-len : goal.returns-in_err-len
+returns-in_err-len c =
+    let a = c.args in
+    let p = err_from_is_err_and c.from_residual-in_err-len.result c.from_residual-in_err-len.ensures.1 in
+    let y = coded_placed a.room.now a.end a.station a.name.now _ c.in_ok-new.ensures _ _ c.append_coded.ensures in
+    rw (p.1, p.2) (appended a.room.now a.end a.station a.name.now (sym c.in_ok-check_end.ensures) _ _ y _ (sym (ap (behind a.end a.station) c.in_err-len.was)))
 
 pub overflow_cast-result : goal.overflow_cast-result
 overflow_cast-result c =
     let a = c.args in
-    omega (arith, station_small a.room.now a.end a.station a.name.now _ _ c.append_under-made.ensures _ c.in-Length.is)
+    omega (arith, station_small a.room.now a.end a.station a.name.now _ _ (coded_placed a.room.now a.end a.station a.name.now _ c.in_ok-new.ensures _ _ c.append_coded.ensures) _ c.in_ok-len.was)
 
 pub overflow_add-result : goal.overflow_add-result
 overflow_add-result c =
     let a = c.args in
-    omega (arith, station_small a.room.now a.end a.station a.name.now _ _ c.append_under-made.ensures _ c.in-Length.is)
+    omega (arith, station_small a.room.now a.end a.station a.name.now _ _ (coded_placed a.room.now a.end a.station a.name.now _ c.in_ok-new.ensures _ _ c.append_coded.ensures) _ c.in_ok-len.was)
 
-pub returns-in-Length : goal.returns-in-Length
-returns-in-Length c =
+pub returns : goal.returns
+returns c =
     let a = c.args in
-    appended a.room.now a.end a.station a.name.now (sym c.end_fault-fault.ensures ∙ c.if-fault-ne0.false) _ _ c.append_under-made.ensures _ (sym (ap (behind a.end a.station) c.in-Length.is))
-
-pub returns-in-Fault : goal.returns-in-Fault
-returns-in-Fault c =
-    let a = c.args in
-    appended a.room.now a.end a.station a.name.now (sym c.end_fault-fault.ensures ∙ c.if-fault-ne0.false) _ _ c.append_under-made.ensures _ (sym (ap (behind a.end a.station) c.in-Fault.is))
+    let y = coded_placed a.room.now a.end a.station a.name.now _ c.in_ok-new.ensures _ _ c.append_coded.ensures in
+    appended a.room.now a.end a.station a.name.now (sym c.in_ok-check_end.ensures) _ _ y _ (sym (ap (behind a.end a.station) c.in_ok-len.was))

@@ -1,10 +1,9 @@
 -- What a close answers, and leaves in the lent room: one byte changes, the kind of the live record of that station.
 -- crates/book_laws/proofs/Closing.antt shows what is read afterwards.
-use Rattle.std.specs.Prelude.{ℕ, ◌≡◌, cond, List, [], ◌∷◌, set}
+use Rattle.std.specs.Prelude.{ℕ, ◌≡◌, cond, List, [], ◌∷◌, set, Ok, Err}
 use Rattle.fields.specs.Got.{Got, good, bad}
 use Rattle.header.specs.Head.{formats}
-use Rattle.putting.specs.declared.Made.{Made}
-use Rattle.putting.specs.declared.Made.TheVariants.{Length, Fault}
+use Rattle.putting.specs.Laid.{Made}
 use Rattle.book.specs.Room.{read_in_by}
 use Rattle.entry.specs.Entry.{Entry}
 use Rattle.finding.specs.Finding.{meant, kind_place}
@@ -18,8 +17,8 @@ closed_in station [] = []
 closed_in station (e ∷ es) = cond (meant station e) (closed e ∷ es) (e ∷ closed_in station es)
 
 abbrev pub close_answer : ℕ → Got ℕ → Made
-close_answer len (good p n) = Length len
-close_answer len (bad f) = Fault f
+close_answer len (good p n) = Ok len
+close_answer len (bad f) = Err f
 
 abbrev pub close_leaves : List ℕ → Got ℕ → List ℕ
 close_leaves room (good p n) = set room p 0

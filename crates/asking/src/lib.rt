@@ -11,11 +11,7 @@ use terms::Limit;
 pub fn limit_of(limited: bool, limit: u64) -> Limit
     ensures { result ≡ limit_of limited limit }
 {
-    if limited {
-        Some(limit as usize)
-    } else {
-        None
-    }
+    limited.then_some(limit as usize)
 }
 
 pub fn choice_of(alternate: bool) -> Choice

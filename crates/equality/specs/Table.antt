@@ -2,8 +2,7 @@
 -- first high byte is at `high` (n where it has none), and a second of n' with `high'`. It is part of what `equal` promises.
 use Rattle.std.specs.Prelude.{ℕ, ◌≤◌, ◌<◌, ◌≡◌, ◌↔◌}
 use Rattle.terms.specs.Limits.{word_limit}
-use Rattle.answers.specs.declared.Verdict.{Verdict}
-use Rattle.answers.specs.Verdicts.{number_of, word_of, place_of, equal_of}
+use Rattle.answers.specs.Verdicts.{Verdict, number_of, word_of, place_of, equal_of}
 
 pub record Told (n high n' high' : ℕ) (r : Verdict) : Type 0 where
   pub one_first : ((number_of r ≡ 1) × (word_of r ≡ 1)) ↔ (word_limit < n)

@@ -1,61 +1,46 @@
 // The equality question: two words, a limit and a choice of code.
 #![tactic(auto)]
 
-ghost use Rattle.std.specs.Prelude.{◌≡◌};
+ghost use Rattle.std.specs.Prelude.{◌≡◌, MatchResult};
 ghost use Rattle.terms.specs.declared.Edition.TheVariants.{E1};
 ghost use Rattle.demands.specs.Code.{code_of};
-ghost use Rattle.equality.specs.Equality.{compared, unless_refused, Answered};
+ghost use Rattle.demands.specs.Demand2.{Taken};
+ghost use Rattle.equality.specs.Equality.{Refuses, Answered};
 
-use answers::{Answer, Verdict};
+use answers::{Verdict, Word, WordRefusal};
 use chosen::{Choice, chosen};
 use encoder::Encoder;
 use terms::{CODE_ROOM, Limit};
 
-// The second word against the first one's code. CODE_ROOM is enough, so no buffer is found too short.
-fn against(limit: Limit, choice: Choice, code: &[u8], two: &[u8]) -> Verdict
-    ensures { result ≡ unless_refused 2 two.now (compared code.now (code_of E1 limit choice two.now)) }
+// The chosen code of a word, in lent room, or the word's refusal. CODE_ROOM is enough, so no buffer is found too short.
+fn code_in<'a>(
+    limit: Limit,
+    choice: Choice,
+    which: Word,
+    word: &[u8],
+    p: &'a mut [u8; CODE_ROOM],
+    a: &'a mut [u8; CODE_ROOM],
+) -> Result<&'a [u8], WordRefusal>
+    ensures { MatchResult result (λ code. Taken word.now × (code.now ≡ code_of E1 limit choice word.now)) (λ refusal. Refuses which word.now refusal) }
 {
-    let mut p = [0u8; CODE_ROOM];
-    let mut a = [0u8; CODE_ROOM];
-    match Encoder::new(limit).encode(two, &mut p, &mut a) {
-        Answer::Coded {
-            primary,
-            alternate,
-            visits: _,
-        } => {
-            if comparing::same_bytes(code, chosen(choice, &p, primary, &a, alternate)) {
-                Verdict::Equal
-            } else {
-                Verdict::Different
-            }
-        }
-        Answer::TooLong => Verdict::TooLong(2),
-        Answer::NotAscii(at) => Verdict::NotAscii(2, at),
-        Answer::PrimaryShort => Verdict::Different,
-        Answer::AlternateShort => Verdict::Different,
+    match Encoder::new(limit).encode(word, p, a) {
+        Ok(coded) => Ok(chosen(choice, p, coded.primary, a, coded.alternate)),
+        Err(refusal) => Err(WordRefusal {
+            word: which,
+            refusal,
+        }),
     }
 }
 
-// Equal, different, or the first refusal: the first word is checked wholly before the second.
+// Whether the codes are equal, or the first refusal: the first word is checked wholly before the second.
 pub fn equal(limit: Limit, choice: Choice, one: &[u8], two: &[u8]) -> Verdict
     ensures { Answered limit choice one.now two.now result }
 {
     let mut p = [0u8; CODE_ROOM];
     let mut a = [0u8; CODE_ROOM];
-    match Encoder::new(limit).encode(one, &mut p, &mut a) {
-        Answer::Coded {
-            primary,
-            alternate,
-            visits: _,
-        } => against(
-            limit,
-            choice,
-            chosen(choice, &p, primary, &a, alternate),
-            two,
-        ),
-        Answer::TooLong => Verdict::TooLong(1),
-        Answer::NotAscii(at) => Verdict::NotAscii(1, at),
-        Answer::PrimaryShort => Verdict::Different,
-        Answer::AlternateShort => Verdict::Different,
-    }
+    let first = code_in(limit, choice, Word::First, one, &mut p, &mut a)?;
+    let mut q = [0u8; CODE_ROOM];
+    let mut b = [0u8; CODE_ROOM];
+    let second = code_in(limit, choice, Word::Second, two, &mut q, &mut b)?;
+    Ok(comparing::same_bytes(first, second))
 }

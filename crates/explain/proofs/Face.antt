@@ -5,7 +5,7 @@ use mathlib.Core.Path.{◌≡◌, ap, ◌∙◌}
 use mathlib.Core.List.{List}
 use lib.ListN.{length}
 use Rattle.terms.specs.Limits.{Limit}
-use Rattle.listing.specs.declared.Told.{Told}
+use Rattle.listing.specs.Numbers.{Told}
 use Rattle.listing.specs.Listing.{told_of, room_of, Explained}
 use Rattle.explain.specs.Face.{told_numbers}
 

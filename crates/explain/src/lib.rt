@@ -10,28 +10,20 @@ ghost use Rattle.explain.specs.Face.{told_numbers};
 
 use asking::limit_of;
 use listing::Told;
+use terms::Fault;
 
 // Number, place, and how many rows.
 fn tell(told: Told, out: &mut [u64; 3])
     ensures { out.new ≡ told_numbers told }
 {
-    match told {
-        Told::Rows(n) => {
-            *out = [0, 0, n as u64];
-        }
-        Told::TooLong => {
-            *out = [1, 0, 0];
-        }
-        Told::NotAscii(at) => {
-            *out = [2, at as u64, 0];
-        }
-        Told::UnknownEdition => {
-            *out = [7, 0, 0];
-        }
-        Told::RoomShort => {
-            *out = [9, 0, 0];
-        }
-    }
+    *out = match told {
+        Ok(rows) => [0, 0, rows as u64],
+        Err(refusal) => [
+            u8::from(Fault::from(refusal)) as u64,
+            refusal.place() as u64,
+            0,
+        ],
+    };
 }
 
 // A row of seven numbers for each visit of a word, at the front of the room; `out` is number, place, rows.

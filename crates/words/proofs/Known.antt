@@ -24,11 +24,10 @@ use Rattle.walk.specs.Word.{visits_of}
 use Rattle.terms.specs.declared.Edition.{Edition}
 use Rattle.terms.specs.declared.Edition.TheVariants.{E1, E2}
 use Rattle.terms.specs.Limits.{Limit}
-use Rattle.std.specs.Prelude.{Some, None}
-use Rattle.answers.specs.declared.Answer.{Answer}
-use Rattle.answers.specs.declared.Answer.TheVariants.{PrimaryShort, AlternateShort, Coded}
+use Rattle.std.specs.Prelude.{Some, None, Ok, Err}
+use Rattle.answers.specs.declared.Refusal.TheVariants.{PrimaryShort, AlternateShort}
 use Rattle.trimming.specs.Trim.{trimmed}
-use Rattle.encoder.specs.Encode.{primary_of, alternate_of, visits_under, answer_of}
+use Rattle.encoder.specs.Encode.{Answer, primary_of, alternate_of, visits_under, answer_of}
 
 pub record Known : Type 0 where
   pub word : String
@@ -109,6 +108,6 @@ edges_known = refl
 unfoldable pub kxz : ℕ → ℕ → Answer
 kxz m n = answer_of E1 None (bytes "KXZ") m n
 
-pub kxz_room : (kxz 5 5 ∷ kxz 4 5 ∷ kxz 5 4 ∷ []) ≡ (Coded 4 5 3 ∷ PrimaryShort ∷ AlternateShort ∷ [])
+pub kxz_room : (kxz 5 5 ∷ kxz 4 5 ∷ kxz 5 4 ∷ []) ≡ (Ok (record { primary = 4; alternate = 5; visits = 3 }) ∷ Err PrimaryShort ∷ Err AlternateShort ∷ [])
 unfolding kxz primary_of alternate_of trimmed visits_of start_of begins_one has_one slavo_germanic visit first holds rows cases_in swallows cases_c cases_d cases_g cases_h cases_j cases_l cases_m cases_p cases_r cases_s cases_t cases_w cases_x cases_z cases_vowel cases_rest up upper is_at sees byte_at vowel vowel_at ends_after is_long same
 kxz_room = refl

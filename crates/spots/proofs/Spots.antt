@@ -1,11 +1,11 @@
 -- What is asked of a place, as a fact about lists.
 use Prim.Native.Nat.{ℕ, ◌+◌, ◌-◌, ◌≤◌, ◌<◌}
 use mathlib.Core.Path.{◌≡◌, refl, sym}
-use mathlib.Core.Bool.{false}
+use mathlib.Core.Bool.{Bool, true, false, ◌&&◌}
 use mathlib.Core.List.{List}
 use native.Mathlib.Omega.{arith}
-use borrow.Author.Tests.{ne_eqb, lt-ltb, le-ltb}
-use lib.Dec.{eqb}
+use borrow.Author.Tests.{ne_eqb, ltb-true, ltb-false}
+use lib.Dec.{eqb, ltb}
 use lib.ListN.{length, get_or}
 use Rattle.byte.specs.Text.{up, upper}
 use Rattle.spots.specs.Spot.{byte_at, vowel_at, ends_after, is_long}
@@ -13,21 +13,21 @@ use Rattle.byte.specs.Vowel.{vowel}
 use Rattle.basics.proofs.Tests.{same_test}
 use Rattle.byte.proofs.Case.{length_upper, get_d_upper}
 
-pub vowel_past : (w : List ℕ) (p : ℕ) → length w ≤ p → false ≡ vowel_at (upper w) p
+-- ---- a test of the byte at a place: it passes there, or nothing stands there
+when_below : (p n : ℕ) (q r : Bool) → (p < n → r ≡ q) → (n ≤ p → r ≡ false) → r ≡ (ltb p n && q)
+when_below p n q r there past = by (ltb p n) refl
+  where
+    by : (b : Bool) → ltb p n ≡ b → r ≡ (b && q)
+    by true e = there (ltb-true p n e)
+    by false e = past (ltb-false p n e)
+
+pub vowel_told : (w : List ℕ) (p : ℕ) (r : Bool) → (p < length w → r ≡ vowel (up (get_or w p 0))) → (length w ≤ p → r ≡ false) → r ≡ vowel_at (upper w) p
 unfolding vowel_at
-vowel_past w p h = simp (length_upper, le-ltb p (length w) h)
+vowel_told w p r there past = simp (length_upper, get_d_upper) (when_below p (length w) _ r there past)
 
-pub vowel_there : (w : List ℕ) (p : ℕ) → p < length w → vowel (up (get_or w p 0)) ≡ vowel_at (upper w) p
-unfolding vowel_at
-vowel_there w p h = simp (length_upper, get_d_upper, lt-ltb p (length w) h)
-
-pub byte_past : (w : List ℕ) (p b : ℕ) → length w ≤ p → false ≡ byte_at (upper w) p b
+pub byte_told : (w : List ℕ) (p b : ℕ) (r : Bool) → (p < length w → r ≡ eqb (up (get_or w p 0)) b) → (length w ≤ p → r ≡ false) → r ≡ byte_at (upper w) p b
 unfolding byte_at
-byte_past w p b h = simp (length_upper, le-ltb p (length w) h)
-
-pub byte_there : (w : List ℕ) (p b x : ℕ) → p < length w → x ≡ up (get_or w p 0) → eqb x b ≡ byte_at (upper w) p b
-unfolding byte_at
-byte_there w p b x h e = rw e (simp (length_upper, get_d_upper, lt-ltb p (length w) h))
+byte_told w p b r there past = simp (length_upper, get_d_upper) (when_below p (length w) _ r there past)
 
 -- ---- the end of the word
 ends_past : (n p k : ℕ) → n ≤ k → false ≡ eqb (p + k + 1) n

@@ -12,13 +12,15 @@ use Rattle.entry.specs.declared.Record as told
 use Rattle.fields.specs.Got.{Got, good, bad, grown, read_all}
 use Rattle.fields.proofs.All as all
 use Rattle.header.specs.declared.Cursor.{Cursor}
+use Rattle.entry.specs.declared.Kind.{Kind}
+use Rattle.entry.specs.declared.Kind.TheVariants.{Live}
 use Rattle.book.specs.declared.Measure.{Measure}
 use Rattle.entry.specs.Entry.{Entry, entry_bytes, read_entry, above}
 use Rattle.book.specs.Book.{read_entries, live, live_bytes, floor_of}
 use Rattle.entry.specs.Told.{record_at}
 use Rattle.book.specs.Told.{surveyed}
 use Rattle.entry.proofs.Entry.{entry_law, some_entry}
-use Rattle.entry.proofs.Kind.{record_told, record_fault}
+use Rattle.entry.proofs.Records.{of_live, of_closed, record_told, record_fault}
 
 -- ---- the live ones
 module _ (format : ℕ) (e : Entry) (es : List Entry) where
@@ -60,11 +62,11 @@ module _ (format : ℕ) (m : Measure) (e : Entry) (n : ℕ) where
       λ i. Ok (record { count = c i; live = m.live + length (l i); floor = floor_of (above e) es; least = floor_of m.least (l i); size = m.size + length (live_passed format e es k i) })
 
 module _ (format : ℕ) (s : List ℕ) (at floor : ℕ) (h : at < length s) (m : Measure) where
-  pub record Turn (k : ℕ) (cur : Cursor) : Type 0 where
+  pub record Turn (k : Kind) (cur : Cursor) : Type 0 where
     pub rises : at < cur.at
     pub within : cur.at ≤ length s
-    pub kept : k ≡ 1 → surveyed format (with_live m cur.floor (cur.at - at)) (read_entries format cur.floor (drop cur.at s)) ≡ surveyed format m (read_entries format floor (drop at s))
-    pub passed : (k ≡ 1 → ⊥) → surveyed format (with_closed m cur.floor) (read_entries format cur.floor (drop cur.at s)) ≡ surveyed format m (read_entries format floor (drop at s))
+    pub kept : k ≡ Live → surveyed format (with_live m cur.floor (cur.at - at)) (read_entries format cur.floor (drop cur.at s)) ≡ surveyed format m (read_entries format floor (drop at s))
+    pub passed : (k ≡ Live → ⊥) → surveyed format (with_closed m cur.floor) (read_entries format cur.floor (drop cur.at s)) ≡ surveyed format m (read_entries format floor (drop at s))
 
   pub turn : (r : told.Record) → record_at format at (read_entry format floor (drop at s)) ≡ Ok r → Turn r.kind r.next
   unfolding read_entries
@@ -83,10 +85,10 @@ module _ (format : ℕ) (s : List ℕ) (at floor : ℕ) (h : at < length s) (m :
         within = omega (arith, t.place, length-drop at s);
         kept = λ j.
             (λ i. surveyed format (with_live m (t.floor i) (z i)) (read_all (read_entry format) above (t.floor i) 0 (drop (t.place i) s)))
-            ∙ sym (ap (surveyed format m) g ∙ one_live format m e t.n (sym t.kind ∙ j) x);
+            ∙ sym (ap (surveyed format m) g ∙ one_live format m e t.n (of_live e.kind (sym t.kind ∙ j)) x);
         passed = λ j.
             (λ i. surveyed format (with_closed m (t.floor i)) (read_all (read_entry format) above (t.floor i) 0 (drop (t.place i) s)))
-            ∙ sym (ap (surveyed format m) g ∙ one_closed format m e t.n (λ y. j (t.kind ∙ y)) x);
+            ∙ sym (ap (surveyed format m) g ∙ one_closed format m e t.n (of_closed e.kind (λ y. j (t.kind ∙ y))) x);
       }
 
   pub stopped : (f : Fault) → record_at format at (read_entry format floor (drop at s)) ≡ Err f → Err f ≡ surveyed format m (read_entries format floor (drop at s))
@@ -95,12 +97,12 @@ module _ (format : ℕ) (s : List ℕ) (at floor : ℕ) (h : at < length s) (m :
       sym (ap (surveyed format m) (all.one_bad (read_entry format) above floor (drop at s) f (omega (arith, length-drop at s)) (record_fault format at f (read_entry format floor (drop at s)) p)))
 
 -- the same, where the parts are known by equations
-module _ (format : ℕ) (s : List ℕ) (at floor : ℕ) (h : at < length s) (m : Measure) (k : ℕ) (cur : Cursor) (t : Turn format s at floor h m k cur) (v l z : ℕ) where
-  pub counted_live : k ≡ 1 → v ≡ m.live + 1 → l ≡ cur.floor → z ≡ m.size + (cur.at - at)
+module _ (format : ℕ) (s : List ℕ) (at floor : ℕ) (h : at < length s) (m : Measure) (k : Kind) (cur : Cursor) (t : Turn format s at floor h m k cur) (v l z : ℕ) where
+  pub counted_live : k ≡ Live → v ≡ m.live + 1 → l ≡ cur.floor → z ≡ m.size + (cur.at - at)
       → surveyed format (record { count = m.count + 1; live = v; floor = cur.floor; least = l; size = z }) (read_entries format cur.floor (drop cur.at s)) ≡ surveyed format m (read_entries format floor (drop at s))
   counted_live j p q r = (λ i. surveyed format (record { count = m.count + 1; live = p i; floor = cur.floor; least = q i; size = r i }) (read_entries format cur.floor (drop cur.at s))) ∙ t.kept j
 
-  pub counted_closed : (k ≡ 1 → ⊥) → v ≡ m.live → l ≡ m.least → z ≡ m.size
+  pub counted_closed : (k ≡ Live → ⊥) → v ≡ m.live → l ≡ m.least → z ≡ m.size
       → surveyed format (record { count = m.count + 1; live = v; floor = cur.floor; least = l; size = z }) (read_entries format cur.floor (drop cur.at s)) ≡ surveyed format m (read_entries format floor (drop at s))
   counted_closed j p q r = (λ i. surveyed format (record { count = m.count + 1; live = p i; floor = cur.floor; least = q i; size = r i }) (read_entries format cur.floor (drop cur.at s))) ∙ t.passed j
 

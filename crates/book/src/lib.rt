@@ -7,7 +7,7 @@ ghost use Rattle.book.specs.Book.{read_entries, read_book_by};
 ghost use Rattle.book.specs.Room.{read_in_by};
 ghost use Rattle.book.specs.Told.{next_of, surveyed, unmeasured, whole_by};
 
-use entry::Record;
+use entry::{Kind, Record};
 use header::{Cursor, Header};
 use terms::Fault;
 
@@ -68,7 +68,7 @@ pub fn records_from(s: &[u8], from: usize, format: u32) -> Result<Measure, Fault
     while c.at < s.len() {
         let record = entry::record_at(s, c.at, format, c.floor)?;
         let next = record.next;
-        if record.kind == 1 {
+        if record.kind == Kind::Live {
             live += 1;
             least = next.floor;
             size += next.at - c.at;

@@ -13,7 +13,8 @@ use Rattle.fields.specs.Got.{Got, good, Both}
 use Rattle.fields.specs.Field.{number, text, read_number, FineNumber, FineText, any}
 use Rattle.fields.proofs.Law.{Law, same, as_far, Fines, both, renamed}
 use Rattle.fields.proofs.Forms.{number_law, text_law, some_number}
-use Rattle.entry.specs.Entry.{Record, Entry, record_bytes, kind_bytes, entry_bytes, kinds, rising, Texts, record_of, entry_of, read_record, read_kind, read_entry}
+use Rattle.entry.specs.Entry.{Record, Entry, record_bytes, kind_bytes, entry_bytes, rising, Texts, record_of, entry_of, read_record, read_kind, read_entry}
+use Rattle.entry.specs.Kinds.{kinds}
 use Rattle.name.specs.Named.{name_length, name_byte}
 
 -- ---- a record

@@ -10,6 +10,7 @@ use Rattle.terms.specs.declared.Fault.{Fault}
 use Rattle.terms.specs.declared.Fault.TheVariants.{NotAbove}
 use Rattle.slices.specs.declared.Span.{Span}
 use Rattle.fields.specs.declared.Field.{Field}
+use Rattle.entry.specs.declared.Kind.{Kind}
 use Rattle.entry.specs.declared.Codes.{Codes}
 use Rattle.fields.specs.Got.{Got, good, bad, Both, read_both, mapped}
 use Rattle.fields.specs.Field.{number, text, read_number, read_text, any}
@@ -70,7 +71,7 @@ module _ (s : List ℕ) (at : ℕ) where
   first_code g p = sym (ap (codes_at at) (then_first code code s at g (part_fault at g (code (drop at s)) p)))
 
 -- ---- a record
-module _ (s : List ℕ) (at kind floor : ℕ) where
+module _ (s : List ℕ) (at : ℕ) (kind : Kind) (floor : ℕ) where
   abbrev station : List ℕ → Got ℕ
   station = read_number (rising floor)
 

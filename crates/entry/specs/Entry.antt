@@ -7,9 +7,10 @@
 -- before any byte of it, and its bytes before its end is missed.
 use Rattle.std.specs.Prelude.{ℕ, ◌+◌, Bool, cond, List, [], ◌++◌, ltb, leb, eqb, Option, Some, None}
 use Rattle.terms.specs.declared.Fault.{Fault}
-use Rattle.terms.specs.declared.Fault.TheVariants.{NotKnown, NotAbove}
+use Rattle.terms.specs.declared.Fault.TheVariants.{NotAbove}
 use Rattle.fields.specs.Got.{read_both, mapped, Both, Got, good}
 use Rattle.fields.specs.Field.{number, text, read_number, read_text, any}
+use Rattle.entry.specs.Kinds.{kinds}
 use Rattle.name.specs.Named.{name_length, name_byte}
 
 pub record Record : Type 0 where
@@ -32,9 +33,6 @@ kind_bytes format k = cond (eqb format 1) [] (number k)
 
 unfoldable pub entry_bytes : ℕ → Entry → List ℕ
 entry_bytes format e = kind_bytes format e.kind ++ record_bytes e.body
-
-abbrev pub kinds : ℕ → Option Fault
-kinds v = cond (leb v 1) None (Some NotKnown)
 
 -- a station, which must be at least `floor`
 abbrev pub rising : ℕ → ℕ → Option Fault

@@ -7,6 +7,8 @@ use Rattle.fields.specs.Field.{number, text}
 use Rattle.fields.specs.Told.{field_at, span_at}
 use Rattle.entry.specs.declared.Codes.{Codes}
 use Rattle.entry.specs.declared.Record as told
+use Rattle.entry.specs.declared.Kind.{Kind}
+use Rattle.entry.specs.Kinds.{kind_of}
 use Rattle.entry.specs.Entry.{Record, Entry, kind_bytes}
 
 -- both codes, at a place
@@ -24,7 +26,7 @@ abbrev pub alternate_place : ℕ → Record → ℕ
 alternate_place at r = primary_place at r + length (text r.primary)
 
 -- a record of a kind that begins at a place, and the next behind it
-abbrev pub lies : ℕ → ℕ → ℕ → Record → told.Record
+abbrev pub lies : Kind → ℕ → ℕ → Record → told.Record
 lies kind at next r = record {
   kind = kind;
   station = r.station;
@@ -34,7 +36,7 @@ lies kind at next r = record {
   next = record { at = next; floor = r.station + 1 };
 }
 
-abbrev pub body_at : ℕ → ℕ → Got Record → Result told.Record Fault
+abbrev pub body_at : Kind → ℕ → Got Record → Result told.Record Fault
 body_at kind at (good r n) = Ok (lies kind at (at + n) r)
 body_at kind at (bad f) = Err f
 
@@ -43,5 +45,5 @@ abbrev pub body_place : ℕ → ℕ → Entry → ℕ
 body_place format at e = at + length (kind_bytes format e.kind)
 
 abbrev pub record_at : ℕ → ℕ → Got Entry → Result told.Record Fault
-record_at format at (good e n) = Ok (lies e.kind (body_place format at e) (at + n) e.body)
+record_at format at (good e n) = Ok (lies (kind_of e.kind) (body_place format at e) (at + n) e.body)
 record_at format at (bad f) = Err f

@@ -5,14 +5,48 @@
 ghost use Rattle.std.specs.Prelude.{◌≡◌, drop};
 ghost use Rattle.fields.specs.Field.{read_number, read_text, any};
 ghost use Rattle.fields.specs.Got.{read_both};
-ghost use Rattle.fields.specs.Told.{value_at};
+ghost use Rattle.fields.specs.Told.{field_at, value_at};
 ghost use Rattle.entry.specs.Entry.{rising, read_record, read_kind, read_entry};
+ghost use Rattle.entry.specs.Kinds.{number_of, kind_of, kind_named};
 ghost use Rattle.entry.specs.Told.{codes_at, body_at, record_at};
 
 use fields::Field;
 use header::Cursor;
 use slices::Span;
 use terms::Fault;
+
+// A closed record is skipped by whoever lists a book.
+#[derive(Clone, Copy, Debug, PartialEq, Eq)]
+pub enum Kind {
+    Closed,
+    Live,
+}
+
+// The number that format 2 spells before a record.
+impl From<Kind> for u32 {
+    ghost from_gives = { λ kind n. n ≡ number_of kind };
+
+    fn from(kind: Kind) -> u32 {
+        match kind {
+            Kind::Closed => 0,
+            Kind::Live => 1,
+        }
+    }
+}
+
+impl TryFrom<u32> for Kind {
+    type Error = Fault;
+
+    ghost try_from_gives = { λ n named. named ≡ kind_named n };
+
+    fn try_from(n: u32) -> Result<Self, Fault> {
+        match n {
+            0 => Ok(Kind::Closed),
+            1 => Ok(Kind::Live),
+            _ => Err(Fault::NotKnown),
+        }
+    }
+}
 
 // Where both codes of a record lie.
 #[derive(Clone, Copy)]
@@ -24,7 +58,7 @@ pub struct Codes {
 // A record as it lies in its book, and the cursor behind it.
 #[derive(Clone, Copy)]
 pub struct Record {
-    pub kind: u32,
+    pub kind: Kind,
     pub station: u32,
     pub name: Span,
     pub primary: Span,
@@ -57,7 +91,7 @@ fn codes_at(s: &[u8], at: usize) -> Result<Field<Codes>, Fault>
 }
 
 // The record behind its kind.
-fn body_at(s: &[u8], at: usize, kind: u32, floor: u32) -> Result<Record, Fault>
+fn body_at(s: &[u8], at: usize, kind: Kind, floor: u32) -> Result<Record, Fault>
     ensures { result ≡ body_at kind at (read_record floor (drop at s.now)) }
 {
     let station = station_at(s, at, floor)?;
@@ -77,17 +111,21 @@ fn body_at(s: &[u8], at: usize, kind: u32, floor: u32) -> Result<Record, Fault>
 }
 
 // The kind at a place. Format 1 spells none: its records are live.
-fn kind_at(s: &[u8], at: usize, format: u32) -> Result<Field<u32>, Fault>
-    ensures { result ≡ value_at at (read_kind format (drop at s.now)) }
+fn kind_at(s: &[u8], at: usize, format: u32) -> Result<Field<Kind>, Fault>
+    ensures { result ≡ field_at kind_of at (read_kind format (drop at s.now)) }
 {
     if format == 1 {
-        return Ok(Field { value: 1, next: at });
+        return Ok(Field {
+            value: Kind::Live,
+            next: at,
+        });
     }
     let found = fields::number_at(s, at)?;
-    if 1 < found.value {
-        return Err(Fault::NotKnown);
-    }
-    Ok(found)
+    let value = Kind::try_from(found.value)?;
+    Ok(Field {
+        value,
+        next: found.next,
+    })
 }
 
 // The record at any place, with its kind; its station must be at least `floor`.

@@ -3,9 +3,10 @@ use mathlib.Core.Path.{sym, ◌∙◌}
 use native.Mathlib.Omega.{arith}
 use Rattle.fields.proofs.Told.{passed}
 use Rattle.book.specs.declared.Measure.{Measure}
+use Rattle.entry.proofs.Records.{same_live, other_kind}
 use Rattle.book.proofs.Measured.{turn, stopped, ended, counted_live, counted_closed}
 use Rattle.book.proofs.records_from.Goals as goal
-use Rattle.book.proofs.records_from.Goals.{then-record-eq1, else-record-eq1}
+use Rattle.book.proofs.records_from.Goals.{then-eq, else-eq}
 
 pub returns-in_err-record : goal.returns-in_err-record
 returns-in_err-record c =
@@ -45,9 +46,9 @@ loop-c-preserved c =
     let m : Measure = record { count = l.count; live = l.live; floor = l.c.floor; least = l.least; size = l.size } in
     let h = c.loop-c-test.true in
     let t = turn a.format a.s.now l.c.at l.c.floor h m _ (sym c.in_ok-record.ensures) in
-    elim c.if-record-eq1.branch [
-      | then-record-eq1 w ↦ (omega (arith, t.rises, l.invariant.0), omega (arith, t.rises, l.invariant.1, w.live-is), omega (arith, t.rises, l.invariant.2, w.size-is), counted_live a.format a.s.now l.c.at l.c.floor h m _ _ t _ _ _ w.if-record-eq1.true w.live-is w.least-is w.size-is ∙ l.invariant.3)
-      | else-record-eq1 w ↦ (omega (arith, t.rises, l.invariant.0), omega (arith, t.rises, l.invariant.1, w.live-is), omega (arith, t.rises, l.invariant.2, w.size-is), counted_closed a.format a.s.now l.c.at l.c.floor h m _ _ t _ _ _ w.if-record-eq1.false w.live-is w.least-is w.size-is ∙ l.invariant.3)
+    elim c.if-eq.branch [
+      | then-eq w ↦ (omega (arith, t.rises, l.invariant.0), omega (arith, t.rises, l.invariant.1, w.live-is), omega (arith, t.rises, l.invariant.2, w.size-is), counted_live a.format a.s.now l.c.at l.c.floor h m _ _ t _ _ _ (same_live _ w.if-eq.ensures) w.live-is w.least-is w.size-is ∙ l.invariant.3)
+      | else-eq w ↦ (omega (arith, t.rises, l.invariant.0), omega (arith, t.rises, l.invariant.1, w.live-is), omega (arith, t.rises, l.invariant.2, w.size-is), counted_closed a.format a.s.now l.c.at l.c.floor h m _ _ t _ _ _ (other_kind _ w.if-eq.ensures) w.live-is w.least-is w.size-is ∙ l.invariant.3)
     ]
 
 pub returns : goal.returns

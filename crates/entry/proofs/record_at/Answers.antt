@@ -1,7 +1,7 @@
 -- `entry::record_at` meets its contract.
 use mathlib.Core.Path.{sym, ◌∙◌}
 use Rattle.fields.proofs.Told.{passed}
-use Rattle.entry.proofs.Kind.{kind_body, kind_fault}
+use Rattle.entry.proofs.Records.{kind_body, kind_fault}
 use Rattle.entry.proofs.record_at.Goals as goal
 
 pub returns-in_err-kind : goal.returns-in_err-kind

@@ -96,19 +96,23 @@ module _ (format : ℕ) (s : List ℕ) (at floor : ℕ) (h : at < length s) (m :
   stopped f p =
       sym (ap (surveyed format m) (all.one_bad (read_entry format) above floor (drop at s) f (omega (arith, length-drop at s)) (record_fault format at f (read_entry format floor (drop at s)) p)))
 
--- the same, where the parts are known by equations
-module _ (format : ℕ) (s : List ℕ) (at floor : ℕ) (h : at < length s) (m : Measure) (k : Kind) (cur : Cursor) (t : Turn format s at floor h m k cur) (v l z : ℕ) where
-  pub counted_live : k ≡ Live → v ≡ m.live + 1 → l ≡ cur.floor → z ≡ m.size + (cur.at - at)
-      → surveyed format (record { count = m.count + 1; live = v; floor = cur.floor; least = l; size = z }) (read_entries format cur.floor (drop cur.at s)) ≡ surveyed format m (read_entries format floor (drop at s))
-  counted_live j p q r = (λ i. surveyed format (record { count = m.count + 1; live = p i; floor = cur.floor; least = q i; size = r i }) (read_entries format cur.floor (drop cur.at s))) ∙ t.kept j
+-- the same, where what was measured so far is known by an equation
+module _ (format : ℕ) (s : List ℕ) (at floor : ℕ) (h : at < length s) (m : Measure) (k : Kind) (cur : Cursor) (t : Turn format s at floor h m k cur) (a : Measure) where
+  abbrev counted : Measure
+  counted = record { count = a.count + 1; live = a.live; floor = cur.floor; least = a.least; size = a.size }
 
-  pub counted_closed : (k ≡ Live → ⊥) → v ≡ m.live → l ≡ m.least → z ≡ m.size
-      → surveyed format (record { count = m.count + 1; live = v; floor = cur.floor; least = l; size = z }) (read_entries format cur.floor (drop cur.at s)) ≡ surveyed format m (read_entries format floor (drop at s))
-  counted_closed j p q r = (λ i. surveyed format (record { count = m.count + 1; live = p i; floor = cur.floor; least = q i; size = r i }) (read_entries format cur.floor (drop cur.at s))) ∙ t.passed j
+  pub counted_live : k ≡ Live → a ≡ record { count = m.count; live = m.live + 1; floor = m.floor; least = cur.floor; size = m.size + (cur.at - at) }
+      → surveyed format counted (read_entries format cur.floor (drop cur.at s)) ≡ surveyed format m (read_entries format floor (drop at s))
+  counted_live j p =
+      (λ i. surveyed format (record { count = (p i).count + 1; live = (p i).live; floor = cur.floor; least = (p i).least; size = (p i).size }) (read_entries format cur.floor (drop cur.at s))) ∙ t.kept j
 
-pub ended : (format : ℕ) (s : List ℕ) (at : ℕ) (m : Measure) → length s ≤ at → Ok m ≡ surveyed format m (read_entries format m.floor (drop at s))
+  pub counted_closed : (k ≡ Live → ⊥) → a ≡ m → surveyed format counted (read_entries format cur.floor (drop cur.at s)) ≡ surveyed format m (read_entries format floor (drop at s))
+  counted_closed j p =
+      (λ i. surveyed format (record { count = (p i).count + 1; live = (p i).live; floor = cur.floor; least = (p i).least; size = (p i).size }) (read_entries format cur.floor (drop cur.at s))) ∙ t.passed j
+
+pub ended : (format : ℕ) (s : List ℕ) (at floor : ℕ) (m : Measure) → m.floor ≡ floor → length s ≤ at → Ok m ≡ surveyed format m (read_entries format floor (drop at s))
 unfolding read_entries
-ended format s at m h =
+ended format s at floor m e h =
     let c : m.count ≡ m.count + 0 = omega arith in
     let v : m.live ≡ m.live + 0 = omega arith in
     let z : m.size ≡ m.size + length (live_bytes format []) = omega (arith, ap length (none_live format)) in

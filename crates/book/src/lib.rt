@@ -23,7 +23,7 @@ pub type Ended = Result<End, Fault>;
 
 // How many records there are and how many of them are live, the least station behind all of them and behind the live ones, and how many
 // bytes the live ones take.
-#[derive(Clone, Copy, Debug, PartialEq, Eq)]
+#[derive(Clone, Copy, Debug, Default, PartialEq, Eq)]
 pub struct Measure {
     pub count: usize,
     pub live: usize,
@@ -61,28 +61,20 @@ pub fn records_from(s: &[u8], from: usize, format: u32) -> Result<Measure, Fault
     ensures { result ≡ surveyed format unmeasured (read_entries format 0 (drop from s.now)) }
 {
     let mut c = Cursor { at: from, floor: 0 };
-    let mut count: usize = 0;
-    let mut live: usize = 0;
-    let mut least: u32 = 0;
-    let mut size: usize = 0;
+    let mut all = Measure::default();
     while c.at < s.len() {
         let record = entry::record_at(s, c.at, format, c.floor)?;
         let next = record.next;
         if record.kind == Kind::Live {
-            live += 1;
-            least = next.floor;
-            size += next.at - c.at;
+            all.live += 1;
+            all.least = next.floor;
+            all.size += next.at - c.at;
         }
-        count += 1;
+        all.count += 1;
+        all.floor = next.floor;
         c = next;
     }
-    Ok(Measure {
-        count,
-        live,
-        floor: c.floor,
-        least,
-        size,
-    })
+    Ok(all)
 }
 
 // Reads a whole book of a format from `least` on.

@@ -1,14 +1,14 @@
 -- From a kind and a record to a record with its kind, and what was told of one.
-use Prim.Native.Nat.{ℕ, ◌+◌, ◌≤◌, ◌<◌}
+use Prim.Native.Nat.{ℕ, ◌+◌, ◌≤◌}
 use mathlib.Core.Path.{◌≡◌, refl, sym, ap, ◌∙◌}
 use mathlib.Core.Bool.{Bool, true, false, cond}
 use mathlib.Core.List.{List}
 use native.Mathlib.Omega.{arith}
-use borrow.Author.Tests.{le-leb, lt-leb, ne_eqb, eqb-true}
+use borrow.Author.Tests.{le-leb, ne_eqb, eqb-true}
 use denote.Enum.Bare.{sameb}
 use lib.Dec.{eqb, leb}
 use lib.ListN.{length, drop}
-use Rattle.std.specs.Prelude.{Result, Some, None, Ok, Err}
+use Rattle.std.specs.Prelude.{Some, None, Ok, Err}
 use Rattle.terms.specs.declared.Fault.{Fault}
 use Rattle.terms.specs.declared.Fault.TheVariants.{NotKnown}
 use Rattle.fields.specs.declared.Field.{Field}
@@ -26,9 +26,6 @@ use Rattle.entry.specs.Told.{primary_place, alternate_place, lies, body_at, body
 use Rattle.entry.proofs.Entry.{kind_law}
 
 -- ---- a kind
-pub kind_above : (v : ℕ) → 1 < v → kinds v ≡ Some NotKnown
-kind_above v h = rw (lt-leb v 1 h)
-
 pub kind_good : (v : ℕ) → v ≤ 1 → kinds v ≡ None
 kind_good v h = rw (le-leb v 1 h)
 

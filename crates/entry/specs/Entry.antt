@@ -5,7 +5,7 @@
 --
 -- Fields are read in their order. A number is judged when it is whole: its form before its value. A name's length is judged
 -- before any byte of it, and its bytes before its end is missed.
-use Rattle.std.specs.Prelude.{ℕ, ◌+◌, Bool, cond, List, [], ◌++◌, ltb, leb, eqb, Option, Some, None}
+use Rattle.std.specs.Prelude.{ℕ, ◌+◌, Bool, cond, List, [], ◌++◌, ltb, eqb, Option, Some, None}
 use Rattle.terms.specs.declared.Fault.{Fault}
 use Rattle.terms.specs.declared.Fault.TheVariants.{NotAbove}
 use Rattle.fields.specs.Got.{read_both, mapped, Both, Got, good}

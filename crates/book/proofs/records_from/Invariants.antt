@@ -8,8 +8,8 @@ use Rattle.book.proofs.records_from.Given as goal
 
 abbrev pub invariant-loop-c : goal.invariant-loop-c
 invariant-loop-c l =
-    (l.count ≤ l.c.at) × (l.live ≤ l.c.at) × (l.size ≤ l.c.at)
-    × (surveyed l.format (record { count = l.count; live = l.live; floor = l.c.floor; least = l.least; size = l.size }) (read_entries l.format l.c.floor (drop l.c.at l.s)) ≡ surveyed l.format unmeasured (read_entries l.format 0 (drop l.from l.s)))
+    (l.all.count ≤ l.c.at) × (l.all.live ≤ l.c.at) × (l.all.size ≤ l.c.at) × (l.all.floor ≡ l.c.floor)
+    × (surveyed l.format l.all (read_entries l.format l.c.floor (drop l.c.at l.s)) ≡ surveyed l.format unmeasured (read_entries l.format 0 (drop l.from l.s)))
 
 abbrev pub decreases-loop-c : goal.decreases-loop-c
 decreases-loop-c l = length l.s - l.c.at

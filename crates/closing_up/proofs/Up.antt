@@ -13,9 +13,11 @@ use Rattle.fields.proofs.Law.{bytes_drop, bytes_take}
 use Rattle.header.specs.declared.Cursor.{Cursor}
 use Rattle.entry.specs.Entry.{Entry, entry_bytes, read_entry, above}
 use Rattle.book.specs.Book.{read_entries, live_bytes}
+use Rattle.entry.specs.declared.Kind.TheVariants.{Live}
+use Rattle.entry.specs.Kinds.{kind_of}
 use Rattle.entry.specs.Told.{record_at}
 use Rattle.entry.proofs.Entry.{entry_law, some_entry}
-use Rattle.entry.proofs.Kind.{record_told, record_fault}
+use Rattle.entry.proofs.Records.{of_live, of_closed, record_told, record_fault}
 use Rattle.book.proofs.Entries.{behind, first_good, none_behind}
 use Rattle.book.proofs.Measured.{live_kept, live_passed, none_live}
 use Rattle.book.specs.Told.{AllGood}
@@ -101,7 +103,7 @@ module _ (room₀ : List ℕ) (len format from : ℕ) (fits : len ≤ length roo
       pub m : ℕ
       pub rises : at < r.next.at
       pub within : r.next.at ≤ len
-      pub kind : r.kind ≡ e.kind
+      pub kind : r.kind ≡ kind_of e.kind
       pub reads : read_entries format r.next.floor (drop r.next.at (take len room₀)) ≡ good es' m
       pub all : x.es ≡ e ∷ es'
       pub size : length (entry_bytes format e) ≡ r.next.at - at
@@ -132,9 +134,9 @@ module _ (room₀ : List ℕ) (len format from : ℕ) (fits : len ≤ length roo
         }
 
     module _ (r : told.Record) (t : Turn r) where
-      passed : (r.kind ≡ 1 → ⊥) → Upto room₀ len format from room r.next to
+      passed : (r.kind ≡ Live → ⊥) → Upto room₀ len format from room r.next to
       passed z =
-          let b : live_bytes format x.es ≡ live_bytes format t.es' = ap (live_bytes format) t.all ∙ live_passed format t.e t.es' (λ y. z (t.kind ∙ y)) in
+          let b : live_bytes format x.es ≡ live_bytes format t.es' = ap (live_bytes format) t.all ∙ live_passed format t.e t.es' (of_closed t.e.kind (λ y. z (t.kind ∙ y))) in
           record {
             low = omega (arith, x.low, t.rises);
             high = t.within;
@@ -147,10 +149,10 @@ module _ (room₀ : List ℕ) (len format from : ℕ) (fits : len ≤ length roo
             sum = sym (ap (λ (j : List ℕ). to + length j) b) ∙ x.sum;
           }
 
-      kept : Bytes room₀ → r.kind ≡ 1 → (room' : List ℕ) → room' ≡ sets room to (take (r.next.at - at) (drop at room)) → Upto room₀ len format from room' r.next (to + (r.next.at - at))
+      kept : Bytes room₀ → r.kind ≡ Live → (room' : List ℕ) → room' ≡ sets room to (take (r.next.at - at) (drop at room)) → Upto room₀ len format from room' r.next (to + (r.next.at - at))
       kept bs z room' d =
           let w : List ℕ = entry_bytes format t.e in
-          let b : live_bytes format x.es ≡ w ++ live_bytes format t.es' = ap (live_bytes format) t.all ∙ live_kept format t.e t.es' (sym t.kind ∙ z) in
+          let b : live_bytes format x.es ≡ w ++ live_bytes format t.es' = ap (live_bytes format) t.all ∙ live_kept format t.e t.es' (of_live t.e.kind (sym t.kind ∙ z)) in
           let u : room' ≡ sets room to w = d ∙ ap (sets room to) (t.bytes bs) in
           let s : to + (r.next.at - at) ≡ to + length w = omega (arith, t.size) in
           record {
@@ -170,8 +172,8 @@ module _ (room₀ : List ℕ) (len format from : ℕ) (fits : len ≤ length roo
         left_as : (q : List ℕ) (k : ℕ) → Upto room₀ len format from q r.next k → room' ≡ q → to' ≡ k → Upto room₀ len format from room' r.next to'
         left_as q k y e f = subst (λ (j : ℕ). Upto room₀ len format from room' r.next j) (sym f) (subst (λ (l : List ℕ). Upto room₀ len format from l r.next k) (sym e) y)
 
-        pub upto_passed : (r.kind ≡ 1 → ⊥) → room' ≡ room → to' ≡ to → Upto room₀ len format from room' r.next to'
+        pub upto_passed : (r.kind ≡ Live → ⊥) → room' ≡ room → to' ≡ to → Upto room₀ len format from room' r.next to'
         upto_passed z = left_as room to (passed z)
 
-        pub upto_kept : Bytes room₀ → r.kind ≡ 1 → room' ≡ sets room to (take (r.next.at - at) (drop at room)) → to' ≡ to + (r.next.at - at) → Upto room₀ len format from room' r.next to'
+        pub upto_kept : Bytes room₀ → r.kind ≡ Live → room' ≡ sets room to (take (r.next.at - at) (drop at room)) → to' ≡ to + (r.next.at - at) → Upto room₀ len format from room' r.next to'
         upto_kept bs z = left_as (sets room to (take (r.next.at - at) (drop at room))) (to + (r.next.at - at)) (kept bs z _ refl)

@@ -6,6 +6,7 @@ ghost use Rattle.fields.specs.Put.{Put};
 ghost use Rattle.book.specs.Told.{AllGood};
 ghost use Rattle.closing_up.specs.Up.{entries_in, live_of};
 
+use entry::Kind;
 use header::Cursor;
 
 // Closes up the records from `from` to `len`: the live ones, in order and byte for byte, from `from` on. Gives the place behind them. What
@@ -20,7 +21,7 @@ pub fn close_up(room: &mut [u8], len: usize, format: u32, from: usize) -> usize
         let Ok(record) = entry::record_at(&room[..len], cursor.at, format, cursor.floor) else {
             return to;
         };
-        if record.kind == 1 {
+        if record.kind == Kind::Live {
             let size = record.next.at - cursor.at;
             copying::copy_down(room, to, cursor.at, size);
             to += size;

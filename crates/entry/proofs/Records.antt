@@ -21,7 +21,7 @@ use Rattle.entry.specs.Entry.{Record, Entry, kind_bytes, read_record, read_kind,
 use Rattle.entry.specs.declared.Kind.{Kind}
 use Rattle.entry.specs.declared.Kind.TheVariants.{Closed, Live}
 use Rattle.entry.specs.contracts.Kind.{the_type}
-use Rattle.entry.specs.Kinds.{kinds, kind_of, kind_named}
+use Rattle.entry.specs.Kinds.{number_of, kinds, kind_of, kind_named}
 use Rattle.entry.specs.Told.{primary_place, alternate_place, lies, body_at, body_place, record_at}
 use Rattle.entry.proofs.Entry.{kind_law}
 
@@ -38,6 +38,13 @@ of_live n e = go (eqb n 1) refl e
 
 pub of_closed : (n : ℕ) → (kind_of n ≡ Live → ⊥) → n ≡ 1 → ⊥
 of_closed n z e = z (rw e)
+
+pub number_live : (n : ℕ) → eqb (number_of (kind_of n)) 1 ≡ eqb n 1
+number_live n = go (eqb n 1)
+  where
+    go : (t : Bool) → eqb (number_of (cond t Live Closed)) 1 ≡ t
+    go true = refl
+    go false = refl
 
 -- a kind that was compared with the live one
 pub same_live : (k : Kind) → true ≡ sameb the_type k Live → k ≡ Live

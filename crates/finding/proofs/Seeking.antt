@@ -15,9 +15,10 @@ use Rattle.terms.specs.declared.Fault.{Fault}
 use Rattle.terms.specs.declared.Fault.TheVariants.{NoLive}
 use Rattle.entry.specs.Entry.{Entry, entry_bytes, read_entry, above}
 use Rattle.book.specs.Book.{read_entries}
+use Rattle.entry.specs.Kinds.{number_of}
 use Rattle.entry.specs.Told.{record_at}
 use Rattle.entry.proofs.Entry.{entry_law, some_entry}
-use Rattle.entry.proofs.Kind.{RecordTold, record_told, record_fault}
+use Rattle.entry.proofs.Records.{number_live, RecordTold, record_told, record_fault}
 use Rattle.book.proofs.Entries.{Behind, behind, first_good, none_behind}
 use Rattle.finding.specs.Finding.{meant, place_of, Place, place_told, sought_by, Sought}
 use Rattle.book.specs.Told.{AllGood}
@@ -60,7 +61,7 @@ module _ (s : List ℕ) (format station from : ℕ) (c : Cursor) (x : Seeking s 
         pub rises : at < r.next.at
         pub within : r.next.at ≤ length s
         pub place : r.next.at ≡ at + length (entry_bytes format e)
-        pub meets : (eqb r.kind 1 && eqb r.station station) ≡ meant station e
+        pub meets : (eqb (number_of r.kind) 1 && eqb r.station station) ≡ meant station e
         pub reads : read_entries format r.next.floor (drop r.next.at s) ≡ good es' m
 
       pub passing : Passing
@@ -77,11 +78,11 @@ module _ (s : List ℕ) (format station from : ℕ) (c : Cursor) (x : Seeking s 
             rises = omega (arith, t.place, some_entry format t.e);
             within = omega (arith, t.place, length-drop at s);
             place = omega (arith, t.place, u);
-            meets = λ i. eqb (t.kind i) 1 && eqb (t.station i) station;
+            meets = (λ i. eqb (number_of (t.kind i)) 1 && eqb (t.station i) station) ∙ ap (λ (j : Bool). j && eqb t.e.body.station station) (number_live t.e.kind);
             reads = (λ i. read_entries format (t.floor i) (drop (t.place i) s)) ∙ ap (read_entries format (above t.e)) (sym (drop-drop t.n at s)) ∙ y.is;
           }
 
-      pub seek_hit : (eqb r.kind 1 && eqb r.station station) ≡ true → Sought s format station from (Ok at)
+      pub seek_hit : (eqb (number_of r.kind) 1 && eqb r.station station) ≡ true → Sought s format station from (Ok at)
       seek_hit b =
           let t : Passing = passing in
           let c : place_told (place_of format station at (t.e ∷ t.es')) ≡ Ok at = ap (λ (j : Bool). place_told (cond j (good at 1) (place_of format station (at + length (entry_bytes format t.e)) t.es'))) (sym t.meets ∙ b) in
@@ -90,7 +91,7 @@ module _ (s : List ℕ) (format station from : ℕ) (c : Cursor) (x : Seeking s 
             inside = λ q e. let z : at ≡ q = cc in omega arith;
           }
 
-      pub seek_on : (eqb r.kind 1 && eqb r.station station) ≡ false → Seeking s format station from r.next
+      pub seek_on : (eqb (number_of r.kind) 1 && eqb r.station station) ≡ false → Seeking s format station from r.next
       seek_on b =
           let t : Passing = passing in
           let c : place_told (place_of format station at (t.e ∷ t.es')) ≡ place_told (place_of format station r.next.at t.es') =

@@ -4,8 +4,10 @@
 ghost use Rattle.std.specs.Prelude.{◌≡◌, ◌&&◌, eqb, drop};
 ghost use Rattle.book.specs.Book.{read_entries};
 ghost use Rattle.book.specs.Told.{AllGood};
+ghost use Rattle.entry.specs.Kinds.{number_of};
 ghost use Rattle.finding.specs.Finding.{Sought};
 
+use entry::Kind;
 use header::Cursor;
 use terms::Fault;
 
@@ -13,10 +15,10 @@ use terms::Fault;
 pub type Place = Result<usize, Fault>;
 
 // Whether a record is the live one of a station.
-fn is_meant(kind: u32, here: u32, station: u64) -> bool
-    ensures { result ≡ (eqb kind 1 && eqb here station) }
+fn is_meant(kind: Kind, here: u32, station: u64) -> bool
+    ensures { result ≡ (eqb (number_of kind) 1 && eqb here station) }
 {
-    kind == 1 && here as u64 == station
+    kind == Kind::Live && here as u64 == station
 }
 
 // Where the kind of the live record of a station stands, in a book whose records read; `NoLive` for none.

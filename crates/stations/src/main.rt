@@ -3,7 +3,7 @@
 // A fault ends the print, and its number, behind `!`, begins the last line.
 #![tactic(auto)]
 
-use entry::Record;
+use entry::{Kind, Record};
 use header::{Cursor, Header};
 use std::io::{Read, Stdin, Stdout};
 use std::{fmt, io};
@@ -82,7 +82,11 @@ fn put_record(output: Stdout, s: &[u8], record: Record) -> io::Result<()> {
         output.write_all(b"\t")?;
         output.write_all(slices::bytes_of(s, part))?;
     }
-    output.print(if record.kind == 1 { "\n" } else { "\tclosed\n" })
+    output.print(if record.kind == Kind::Live {
+        "\n"
+    } else {
+        "\tclosed\n"
+    })
 }
 
 // The records from a cursor on, to the end or to the first fault.
@@ -96,7 +100,7 @@ fn put_records(output: Stdout, s: &[u8], header: Header, first: Cursor) -> io::R
                 put_record(output, s, record)?;
                 cursor = record.next;
                 count += 1;
-                closed += u64::from(record.kind != 1);
+                closed += u64::from(record.kind == Kind::Closed);
             }
             Ok(None) => return println!(output; "{}{}", Records(count), Closed(closed)),
             Err(fault) => {

@@ -1,13 +1,17 @@
 -- Every sequence of bytes is a book or shows one of six faults.
 use Prim.Native.Nat.{ℕ}
 use mathlib.Core.Path.{◌≡◌, refl, sym}
-use mathlib.Core.Bool.{Bool, true, false, cond}
+use mathlib.Core.Bool.{Bool, true, false, cond, ◌&&◌}
 use mathlib.Core.List.{List}
 use native.Mathlib.Omega.{arith}
 use lib.Dec.{ltb, leb, eqb}
 use lib.ListN.{drop}
 use Rattle.number.specs.Septets.{Bytes}
 use Rattle.terms.specs.Limits.{word_limit}
+use Rattle.std.specs.Prelude.{Some, None}
+use Rattle.terms.specs.declared.Fault.{Fault}
+use Rattle.terms.specs.declared.Fault.TheVariants.{TooLong, NotAscii, NotKnown, NotAbove}
+use Rattle.keying.proofs.Keyed.{never}
 use Rattle.fields.specs.Got.{Got, good, bad, read_both}
 use Rattle.fields.specs.Field.{read_number, read_text, any}
 use Rattle.fields.proofs.Law.{same_fault}
@@ -21,48 +25,53 @@ use Rattle.header.specs.Head.{known, formats, editions, header_of, read_header_b
 use Rattle.book_laws.specs.Answers.{is_fault, Answer, reads, shows}
 use Rattle.book.proofs.Book.{one_book}
 
-abbrev IsFault : ℕ → Type 0
+abbrev IsFault : Fault → Type 0
 IsFault f = is_fault f ≡ true
+
+no_fault : {f : Fault} → None ≡ Some f → IsFault f
+no_fault e = never (sym e)
+
+shown : {g f : Fault} → IsFault g → Some g ≡ Some f → IsFault f
+shown {g} {f} p e = let z : f ≡ g = cc in rw z p
 
 -- ---- the judges'
 known_fault_lem : (least most : ℕ) → Judged IsFault (known least most)
-known_fault_lem least most v z = go (leb least v) (leb v most) z
+known_fault_lem least most v f e = go (leb least v && leb v most) e
   where
-    go : (p q : Bool) → (◌≡◌ {A = ℕ} (cond p (cond q 0 7) 7) 0 → ⊥) → is_fault (cond p (cond q 0 7) 7) ≡ true
-    go false q z = refl
-    go true false z = refl
-    go true true z = absurd (z refl)
+    go : (p : Bool) → cond p None (Some NotKnown) ≡ Some f → IsFault f
+    go true e = no_fault e
+    go false e = shown refl e
 
 kinds_fault : Judged IsFault kinds
-kinds_fault v z = go (leb v 1) z
+kinds_fault v f e = go (leb v 1) e
   where
-    go : (p : Bool) → (◌≡◌ {A = ℕ} (cond p 0 7) 0 → ⊥) → is_fault (cond p 0 7) ≡ true
-    go false z = refl
-    go true z = absurd (z refl)
+    go : (p : Bool) → cond p None (Some NotKnown) ≡ Some f → IsFault f
+    go true e = no_fault e
+    go false e = shown refl e
 
 rising_fault : (floor : ℕ) → Judged IsFault (rising floor)
-rising_fault floor v z = go (ltb v floor) z
+rising_fault floor v f e = go (ltb v floor) e
   where
-    go : (p : Bool) → (◌≡◌ {A = ℕ} (cond p 8 0) 0 → ⊥) → is_fault (cond p 8 0) ≡ true
-    go true z = refl
-    go false z = absurd (z refl)
+    go : (p : Bool) → cond p (Some NotAbove) None ≡ Some f → IsFault f
+    go true e = shown refl e
+    go false e = no_fault e
 
 length_fault : Judged IsFault name_length
-length_fault v z = go (ltb word_limit v) z
+length_fault v f e = go (ltb word_limit v) e
   where
-    go : (p : Bool) → (◌≡◌ {A = ℕ} (cond p 1 0) 0 → ⊥) → is_fault (cond p 1 0) ≡ true
-    go true z = refl
-    go false z = absurd (z refl)
+    go : (p : Bool) → cond p (Some TooLong) None ≡ Some f → IsFault f
+    go true e = shown refl e
+    go false e = no_fault e
 
 byte_fault : Judged IsFault name_byte
-byte_fault b z = go (leb 128 b) z
+byte_fault b f e = go (leb 128 b) e
   where
-    go : (p : Bool) → (◌≡◌ {A = ℕ} (cond p 2 0) 0 → ⊥) → is_fault (cond p 2 0) ≡ true
-    go true z = refl
-    go false z = absurd (z refl)
+    go : (p : Bool) → cond p (Some NotAscii) None ≡ Some f → IsFault f
+    go true e = shown refl e
+    go false e = no_fault e
 
 no_judge : Judged IsFault any
-no_judge v z = absurd (z refl)
+no_judge v f e = no_fault e
 
 -- ---- header, record, book
 module _ (least : ℕ) where
@@ -106,7 +115,7 @@ pub book_faults : (least : ℕ) → Only IsFault (read_book_by (formats least))
 unfolding read_book_by
 book_faults least l f e = go (read_header_by (formats least) l) refl e
   where
-    next : (h : Header) (n : ℕ) (y : Got (List Entry)) → ((g : ℕ) → y ≡ bad g → IsFault g) → under h n y ≡ bad f → IsFault f
+    next : (h : Header) (n : ℕ) (y : Got (List Entry)) → ((g : Fault) → y ≡ bad g → IsFault g) → under h n y ≡ bad f → IsFault f
     next h n (bad g) k e = rw (sym (same_fault e)) (k g refl)
     next h n (good es m) k e = let z : ◌≡◌ {A = ℕ} 0 1 = cc in absurd (omega arith)
 

@@ -21,8 +21,11 @@ use Rattle.terms.specs.Editions.{last_format}
 use Rattle.entry.proofs.Entry.{spelt, FineEntry}
 use Rattle.book.proofs.Book.{FineEntries, reads_back, OneBook, one_book}
 use Rattle.header.proofs.Head.{FineHeader, known_good}
-use Rattle.putting.specs.declared.Made.{Made}
-use Rattle.putting.specs.declared.Made.TheVariants.{Length, Fault}
+use Rattle.std.specs.Prelude.{Option, Some, None, Ok, Err}
+use Rattle.terms.specs.declared.Fault.{Fault}
+use Rattle.terms.specs.declared.Fault.TheVariants.{NoLive}
+use Rattle.putting.specs.Laid.{Made}
+use Rattle.keying.proofs.Keyed.{no_length}
 use Rattle.book.specs.Room.{read_in_by, read_in}
 use Rattle.book.proofs.Room.{Lies, lies}
 use Rattle.finding.specs.Finding.{meant, place_of, kind_place}
@@ -104,13 +107,13 @@ module _ (format : ℕ) (two : eqb format 1 ≡ false) (station : ℕ) where
       go ih false = all.more x ih
 
 -- ---- CLOSING: one byte changes, from 1 to 0, and the book reads as before but for that entry's kind
-pub record CloseReads (judge : ℕ → ℕ) (l : List ℕ) (b : Book) (station p : ℕ) : Type 0 where
+pub record CloseReads (judge : ℕ → Option Fault) (l : List ℕ) (b : Book) (station p : ℕ) : Type 0 where
   pub inside : p < length l
   pub was : get_or l p 0 ≡ 1
   pub others : (j : ℕ) → (j ≡ p → ⊥) → get_or (set l p 0) j 0 ≡ get_or l j 0
   pub reads : read_book_by judge (set l p 0) ≡ good (record { header = b.header; records = closed_in station b.records }) (length (set l p 0))
 
-pub close_reads : (judge : ℕ → ℕ) (l : List ℕ) → Bytes l → (b : Book) (n : ℕ) → read_book_by judge l ≡ good b n → eqb b.header.format 1 ≡ false
+pub close_reads : (judge : ℕ → Option Fault) (l : List ℕ) → Bytes l → (b : Book) (n : ℕ) → read_book_by judge l ≡ good b n → eqb b.header.format 1 ≡ false
     → (station p m : ℕ) → kind_place station (good b n) ≡ good p m → CloseReads judge l b station p
 unfolding written
 close_reads judge l bs b n e two station p m q =
@@ -155,12 +158,12 @@ pub record ClosedOne (room : List ℕ) (len station m : ℕ) (room' : List ℕ) 
   pub others : (j : ℕ) → (j ≡ place → ⊥) → get_or room' j 0 ≡ get_or room j 0
   pub after : read_book_by (formats 2) (take len room') ≡ good (record { header = book.header; records = closed_in station book.records }) len
 
-pub close_one : (room : List ℕ) → Bytes room → (len station m : ℕ) (room' : List ℕ) → Closed room len station (Length m) room' → ClosedOne room len station m room'
+pub close_one : (room : List ℕ) → Bytes room → (len station m : ℕ) (room' : List ℕ) → Closed room len station (Ok m) room' → ClosedOne room len station m room'
 unfolding read_in_by
 close_one room bs len station m room' x = go (read_in_by (formats 2) room len) refl x.answer x.leaves
   where
-    on : (b : Book) (n : ℕ) → read_in_by (formats 2) room len ≡ good b n → (y : Got ℕ) → kind_place station (good b n) ≡ y → Length m ≡ close_answer len y → room' ≡ close_leaves room y → ClosedOne room len station m room'
-    on b n e (bad f) d p q = let z : ◌≡◌ {A = ℕ} 0 1 = cc in absurd (omega arith)
+    on : (b : Book) (n : ℕ) → read_in_by (formats 2) room len ≡ good b n → (y : Got ℕ) → kind_place station (good b n) ≡ y → Ok m ≡ close_answer len y → room' ≡ close_leaves room y → ClosedOne room len station m room'
+    on b n e (bad f) d p q = no_length (sym p)
     on b n e (good k j) d p q =
         let s : Lies (formats 2) room len b n = lies (formats 2) room len b n e in
         let l : List ℕ = take len room in
@@ -183,25 +186,25 @@ close_one room bs len station m room' x = go (read_in_by (formats 2) room len) r
           after = ap (read_book_by (formats 2)) t ∙ c.reads ∙ ap (good (record { header = b.header; records = closed_in station b.records })) (length-set l k 0 ∙ w);
         }
 
-    go : (y : Got Book) → read_in_by (formats 2) room len ≡ y → Length m ≡ close_answer len (kind_place station y) → room' ≡ close_leaves room (kind_place station y) → ClosedOne room len station m room'
-    go (bad f) e p q = let z : ◌≡◌ {A = ℕ} 0 1 = cc in absurd (omega arith)
+    go : (y : Got Book) → read_in_by (formats 2) room len ≡ y → Ok m ≡ close_answer len (kind_place station y) → room' ≡ close_leaves room (kind_place station y) → ClosedOne room len station m room'
+    go (bad f) e p q = no_length (sym p)
     go (good b n) e p q = on b n e (kind_place station (good b n)) refl p q
 
 -- ---- WHEN: the fault that is read, 7 for a format 1 book among them; else 11 exactly where the station has no live record
-place_when : (format station len at : ℕ) (es : List Entry) → close_answer len (place_of format station at es) ≡ cond (has_live station es) (Length len) (Fault 11)
+place_when : (format station len at : ℕ) (es : List Entry) → close_answer len (place_of format station at es) ≡ cond (has_live station es) (Ok len) (Err NoLive)
 place_when format station len at [] = refl
 place_when format station len at (e ∷ es) = go (meant station e) (place_when format station len (at + length (entry_bytes format e)) es)
   where
-    go : (t : Bool) → close_answer len (place_of format station (at + length (entry_bytes format e)) es) ≡ cond (has_live station es) (Length len) (Fault 11)
-        → close_answer len (cond t (good at 1) (place_of format station (at + length (entry_bytes format e)) es)) ≡ cond (t || has_live station es) (Length len) (Fault 11)
+    go : (t : Bool) → close_answer len (place_of format station (at + length (entry_bytes format e)) es) ≡ cond (has_live station es) (Ok len) (Err NoLive)
+        → close_answer len (cond t (good at 1) (place_of format station (at + length (entry_bytes format e)) es)) ≡ cond (t || has_live station es) (Ok len) (Err NoLive)
     go true ih = refl
     go false ih = ih
 
 module _ (room : List ℕ) (len station : ℕ) (r : Made) (room' : List ℕ) (x : Closed room len station r room') where
-  pub close_when : (b : Book) (n : ℕ) → read_in_by (formats 2) room len ≡ good b n → r ≡ cond (has_live station b.records) (Length len) (Fault 11)
+  pub close_when : (b : Book) (n : ℕ) → read_in_by (formats 2) room len ≡ good b n → r ≡ cond (has_live station b.records) (Ok len) (Err NoLive)
   close_when b n e = x.answer ∙ ap (λ (y : Got Book). close_answer len (kind_place station y)) e ∙ place_when b.header.format station len (length (header_bytes b.header)) b.records
 
-  pub close_unread : (f : ℕ) → read_in_by (formats 2) room len ≡ bad f → r ≡ Fault f
+  pub close_unread : (f : Fault) → read_in_by (formats 2) room len ≡ bad f → r ≡ Err f
   close_unread f e = x.answer ∙ ap (λ (y : Got Book). close_answer len (kind_place station y)) e
 
 -- ---- AGAIN: a station that is closed has no live record, since stations rise
@@ -233,8 +236,8 @@ closed_none format floor station (e ∷ es) (all.more x xs) = go (meant station 
     go true d ih = none_above format (above e) station (omega (arith, is_station station e d)) es xs
     go false d ih = ap (λ (t : Bool). t || has_live station (closed_in station es)) d ∙ ih
 
-pub closed_again : (room : List ℕ) → Bytes room → (len station m : ℕ) (room' : List ℕ) → Closed room len station (Length m) room'
-    → (r : Made) (room'' : List ℕ) → Closed room' len station r room'' → r ≡ Fault 11
+pub closed_again : (room : List ℕ) → Bytes room → (len station m : ℕ) (room' : List ℕ) → Closed room len station (Ok m) room'
+    → (r : Made) (room'' : List ℕ) → Closed room' len station r room'' → r ≡ Err NoLive
 unfolding read_in_by
 closed_again room bs len station m room' x r room'' y =
     let c : ClosedOne room len station m room' = close_one room bs len station m room' x in
@@ -245,4 +248,4 @@ closed_again room bs len station m room' x r room'' y =
     let e : read_in_by (formats 2) room' len ≡ good (record { header = b.header; records = closed_in station b.records }) len =
     rw (le-ltb (length room') len (omega (arith, l, s.fits))) c.after in
     close_when room' len station r room'' y (record { header = b.header; records = closed_in station b.records }) len e
-    ∙ ap (λ (t : Bool). cond t (Length len) (Fault 11)) (closed_none b.header.format 0 station b.records o.records)
+    ∙ ap (λ (t : Bool). cond t (Ok len) (Err NoLive)) (closed_none b.header.format 0 station b.records o.records)

@@ -2,6 +2,9 @@
 use Prim.Native.Nat.{ℕ}
 use mathlib.Core.Path.{◌≡◌, refl}
 use mathlib.Core.List.{List, [], ◌∷◌, ◌++◌}
+use Rattle.std.specs.Prelude.{Option, Ok, Err}
+use Rattle.terms.specs.declared.Fault.{Fault}
+use Rattle.terms.specs.declared.Fault.TheVariants.{BadNumber, BookEnds, NotKnown, NotAbove, NoRoom, NoLive}
 use Rattle.fields.specs.Got.{good, bad}
 use Rattle.fields.specs.Field.{number, text, read_number, read_text, read_bytes}
 use Rattle.header.specs.declared.Header.{Header}
@@ -10,8 +13,7 @@ use Rattle.header.specs.Head.{header_bytes, formats, read_header_by}
 use Rattle.book.specs.Book.{written, read_entries, read_book_by, read_book}
 use Rattle.closing.specs.Closed.{closed_in, close_leaves}
 use Rattle.finding.specs.Finding.{kind_place}
-use Rattle.putting.specs.declared.Made.TheVariants.{Length, Fault}
-use Rattle.putting.specs.Laid.{record_with, entry_with}
+use Rattle.putting.specs.New.{record_with, entry_with}
 use Rattle.placing.specs.Placing.{station_fault}
 use Rattle.book.specs.Room.{read_in_by, read_in}
 use Rattle.fitting.specs.Base.{add_answer, add_leaves}
@@ -44,24 +46,24 @@ unfolding read_book_by read_header_by read_entries read_entry read_kind read_rec
 format_1 = refl
 
 -- a kind above 1 is 7; its form, 5, comes before its value; station order covers both kinds
-kind_2 : read_book (2 ∷ 2 ∷ 0 ∷ 2 ∷ []) ≡ bad 7
+kind_2 : read_book (2 ∷ 2 ∷ 0 ∷ 2 ∷ []) ≡ bad NotKnown
 unfolding read_book_by read_header_by read_entries read_entry read_kind read_record read_number read_text read_bytes
 kind_2 = refl
 
-kind_form : read_book (2 ∷ 2 ∷ 0 ∷ 129 ∷ 0 ∷ []) ≡ bad 5
+kind_form : read_book (2 ∷ 2 ∷ 0 ∷ 129 ∷ 0 ∷ []) ≡ bad BadNumber
 unfolding read_book_by read_header_by read_entries read_entry read_kind read_record read_number read_text read_bytes
 kind_form = refl
 
-kind_wide : read_book (2 ∷ 2 ∷ 0 ∷ 129 ∷ 1 ∷ []) ≡ bad 7
+kind_wide : read_book (2 ∷ 2 ∷ 0 ∷ 129 ∷ 1 ∷ []) ≡ bad NotKnown
 unfolding read_book_by read_header_by read_entries read_entry read_kind read_record read_number read_text read_bytes
 kind_wide = refl
 
-order_covers_closed : read_book (2 ∷ 2 ∷ 0 ∷ 0 ∷ 5 ∷ 0 ∷ 0 ∷ 0 ∷ 1 ∷ 5 ∷ []) ≡ bad 8
+order_covers_closed : read_book (2 ∷ 2 ∷ 0 ∷ 0 ∷ 5 ∷ 0 ∷ 0 ∷ 0 ∷ 1 ∷ 5 ∷ []) ≡ bad NotAbove
 unfolding read_book_by read_header_by read_entries read_entry read_kind read_record read_number read_text read_bytes
 order_covers_closed = refl
 
 -- a close: 7 for format 1 before any fault behind it; the byte of 3's kind; 11 for a closed station and for one that is not there, after reading
-close_format_1 : kind_place 3 (read_in_by (formats 2) (1 ∷ 9 ∷ []) 2) ≡ bad 7
+close_format_1 : kind_place 3 (read_in_by (formats 2) (1 ∷ 9 ∷ []) 2) ≡ bad NotKnown
 unfolding read_in_by read_book_by read_header_by read_entries read_entry read_kind read_record read_number read_text read_bytes
 close_format_1 = refl
 
@@ -69,16 +71,16 @@ close_3 : close_leaves bytes (kind_place 3 (read_in_by (formats 2) bytes 24)) �
 unfolding read_in_by read_book_by read_header_by read_entries read_entry read_kind read_record read_number read_text read_bytes written header_bytes entry_bytes kind_bytes record_bytes number text
 close_3 = refl
 
-close_closed : kind_place 5 (read_in_by (formats 2) bytes 24) ≡ bad 11
+close_closed : kind_place 5 (read_in_by (formats 2) bytes 24) ≡ bad NoLive
 unfolding read_in_by read_book_by read_header_by read_entries read_entry read_kind read_record read_number read_text read_bytes header_bytes entry_bytes kind_bytes record_bytes number text
 close_closed = refl
 
-close_after_reading : kind_place 5 (read_in_by (formats 2) bytes 25) ≡ bad 6
+close_after_reading : kind_place 5 (read_in_by (formats 2) bytes 25) ≡ bad BookEnds
 unfolding read_in_by read_book_by read_header_by read_entries read_entry read_kind read_record read_number read_text read_bytes
 close_after_reading = refl
 
 -- ---- adding a record of five bytes: station s, no name, no codes
-abbrev fault : ℕ → ℕ → ℕ
+abbrev fault : ℕ → ℕ → Option Fault
 fault s floor = station_fault floor s
 
 abbrev new : ℕ → Header → List ℕ
@@ -96,12 +98,12 @@ fits : add_leaves (fault 6) (new 6) (two ++ 0 ∷ filler) 17 (read_in (two ++ 0 
 unfolding read_in_by read_book_by read_header_by read_entries read_entry read_kind read_record read_number read_text read_bytes entry_bytes kind_bytes record_bytes number text
 fits = refl
 
-fits_8 : add_answer (fault 4) (new 4) (two ++ 0 ∷ filler) 17 (read_in (two ++ 0 ∷ filler) 17) ≡ Fault 8
+fits_8 : add_answer (fault 4) (new 4) (two ++ 0 ∷ filler) 17 (read_in (two ++ 0 ∷ filler) 17) ≡ Err NotAbove
 unfolding read_in_by read_book_by read_header_by read_entries read_entry read_kind read_record read_number read_text read_bytes entry_bytes kind_bytes record_bytes number text
 fits_8 = refl
 
 -- one byte less: closed up first; 8 counts A alone; the bytes behind the new end are as at entry, so the end of B's
-up_answer : add_answer (fault 4) (new 4) (two ++ filler) 17 (read_in (two ++ filler) 17) ≡ Length 15
+up_answer : add_answer (fault 4) (new 4) (two ++ filler) 17 (read_in (two ++ filler) 17) ≡ Ok 15
 unfolding read_in_by read_book_by read_header_by read_entries read_entry read_kind read_record read_number read_text read_bytes written header_bytes entry_bytes kind_bytes record_bytes number text
 up_answer = refl
 
@@ -110,7 +112,7 @@ up_leaves : add_leaves (fault 4) (new 4) (two ++ filler) 17 (read_in (two ++ fil
 unfolding read_in_by read_book_by read_header_by read_entries read_entry read_kind read_record read_number read_text read_bytes written header_bytes entry_bytes kind_bytes record_bytes number text
 up_leaves = refl
 
-up_8 : add_answer (fault 3) (new 3) (two ++ filler) 17 (read_in (two ++ filler) 17) ≡ Fault 8
+up_8 : add_answer (fault 3) (new 3) (two ++ filler) 17 (read_in (two ++ filler) 17) ≡ Err NotAbove
 unfolding read_in_by read_book_by read_header_by read_entries read_entry read_kind read_record read_number read_text read_bytes written header_bytes entry_bytes kind_bytes record_bytes number text
 up_8 = refl
 
@@ -118,11 +120,11 @@ up_8 = refl
 abbrev one : List ℕ
 one = 2 ∷ 2 ∷ 0 ∷ 1 ∷ 3 ∷ 1 ∷ 65 ∷ 1 ∷ 75 ∷ 0 ∷ []
 
-up_9 : add_answer (fault 4) (new 4) (one ++ filler) 10 (read_in (one ++ filler) 10) ≡ Fault 9
+up_9 : add_answer (fault 4) (new 4) (one ++ filler) 10 (read_in (one ++ filler) 10) ≡ Err NoRoom
 unfolding read_in_by read_book_by read_header_by read_entries read_entry read_kind read_record read_number read_text read_bytes written header_bytes entry_bytes kind_bytes record_bytes number text
 up_9 = refl
 
 -- format 1: as before
-format_1_9 : add_answer (fault 4) (new 4) (1 ∷ 2 ∷ 0 ∷ 3 ∷ 0 ∷ 0 ∷ 0 ∷ 91 ∷ 92 ∷ 93 ∷ []) 7 (read_in (1 ∷ 2 ∷ 0 ∷ 3 ∷ 0 ∷ 0 ∷ 0 ∷ 91 ∷ 92 ∷ 93 ∷ []) 7) ≡ Fault 9
+format_1_9 : add_answer (fault 4) (new 4) (1 ∷ 2 ∷ 0 ∷ 3 ∷ 0 ∷ 0 ∷ 0 ∷ 91 ∷ 92 ∷ 93 ∷ []) 7 (read_in (1 ∷ 2 ∷ 0 ∷ 3 ∷ 0 ∷ 0 ∷ 0 ∷ 91 ∷ 92 ∷ 93 ∷ []) 7) ≡ Err NoRoom
 unfolding read_in_by read_book_by read_header_by read_entries read_entry read_kind read_record read_number read_text read_bytes written header_bytes entry_bytes kind_bytes record_bytes number text
 format_1_9 = refl

@@ -1,7 +1,7 @@
 -- The two theorems of the book in plain terms.
 use Prim.Native.Nat.{ℕ, suc, ◌≤◌}
 use mathlib.Core.Path.{◌≡◌, refl}
-use mathlib.Core.Bool.{Bool, true, false, cond}
+use mathlib.Core.Bool.{Bool, true, false, cond, ◌&&◌}
 use mathlib.Core.List.{List, [], ◌∷◌}
 use native.Mathlib.Omega.{arith}
 use borrow.Author.Tests.{le-ltb, ltb-false, leb-true, eqb-true}
@@ -10,8 +10,11 @@ use lib.ListN.{length}
 use Rattle.number.specs.Septets.{Bytes}
 use Rattle.terms.specs.Limits.{word_limit}
 use Rattle.ascii.specs.High.{first_high}
+use Rattle.std.specs.Prelude.{Option, Some, None}
+use Rattle.terms.specs.declared.Fault.TheVariants.{TooLong, NotAscii, NotKnown, NotAbove}
 use Rattle.fields.specs.Got.{good}
-use Rattle.fields.specs.Field.{fault_in}
+use Rattle.fields.specs.Field.{first, fault_in}
+use Rattle.keying.proofs.Keyed.{never}
 use Rattle.fields.proofs.Forms.{none_in}
 use Rattle.terms.specs.Editions.{last_edition, last_format}
 use Rattle.header.specs.declared.Header.{Header}
@@ -27,12 +30,12 @@ use Rattle.book_laws.specs.Good.{GoodHeader, GoodRecord, GoodRecords, none, more
 use Rattle.fields.proofs.All as all
 
 -- ---- a name without a high byte shows no fault
-pub clean : (w : List ℕ) → length w ≤ first_high w → fault_in name_byte w ≡ 0
+pub clean : (w : List ℕ) → length w ≤ first_high w → fault_in name_byte w ≡ None
 clean [] h = refl
 clean (b ∷ w) h = go (leb 128 b) (clean w) h
   where
-    go : (t : Bool) → (length w ≤ first_high w → fault_in name_byte w ≡ 0) → suc (length w) ≤ cond t 0 (suc (first_high w))
-        → cond (eqb (cond t 2 0) 0) (fault_in name_byte w) (cond t 2 0) ≡ 0
+    go : (t : Bool) → (length w ≤ first_high w → fault_in name_byte w ≡ None) → suc (length w) ≤ cond t 0 (suc (first_high w))
+        → first (cond t (Some NotAscii) None) (fault_in name_byte w) ≡ None
     go true ih h = absurd (omega arith)
     go false ih h = ih (omega arith)
 
@@ -71,35 +74,35 @@ records_fine format floor (e ∷ es) (more x xs) =
     all.more (record { front = kind_fine format e.kind x.kind x.one; behind = record_fine floor e.body x.body }) (records_fine format (above e) es xs)
 
 -- ---- and back
-pub is_known : (least most v : ℕ) → known least most v ≡ 0 → (least ≤ v) × (v ≤ most)
+pub is_known : (least most v : ℕ) → known least most v ≡ None → (least ≤ v) × (v ≤ most)
 is_known least most v e = go (leb least v) refl (leb v most) refl e
   where
-    go : (p : Bool) → leb least v ≡ p → (q : Bool) → leb v most ≡ q → ◌≡◌ {A = ℕ} (cond p (cond q 0 7) 7) 0 → (least ≤ v) × (v ≤ most)
-    go false d q f e = absurd (omega arith)
-    go true d false f e = absurd (omega arith)
+    go : (p : Bool) → leb least v ≡ p → (q : Bool) → leb v most ≡ q → cond (p && q) None (Some NotKnown) ≡ None → (least ≤ v) × (v ≤ most)
+    go false d q f e = never e
+    go true d false f e = never e
     go true d true f e = (leb-true least v d, leb-true v most f)
 
-pub not_below : (floor v : ℕ) → rising floor v ≡ 0 → floor ≤ v
+pub not_below : (floor v : ℕ) → rising floor v ≡ None → floor ≤ v
 not_below floor v e = go (ltb v floor) refl e
   where
-    go : (p : Bool) → ltb v floor ≡ p → ◌≡◌ {A = ℕ} (cond p 8 0) 0 → floor ≤ v
-    go true d e = absurd (omega arith)
+    go : (p : Bool) → ltb v floor ≡ p → cond p (Some NotAbove) None ≡ None → floor ≤ v
+    go true d e = never e
     go false d e = ltb-false _ _ d
 
-not_long : (n : ℕ) → name_length n ≡ 0 → n ≤ word_limit
+not_long : (n : ℕ) → name_length n ≡ None → n ≤ word_limit
 not_long n e = go (ltb word_limit n) refl e
   where
-    go : (p : Bool) → ltb word_limit n ≡ p → ◌≡◌ {A = ℕ} (cond p 1 0) 0 → n ≤ word_limit
-    go true d e = absurd (omega arith)
+    go : (p : Bool) → ltb word_limit n ≡ p → cond p (Some TooLong) None ≡ None → n ≤ word_limit
+    go true d e = never e
     go false d e = ltb-false _ _ d
 
-no_high : (w : List ℕ) → fault_in name_byte w ≡ 0 → length w ≤ first_high w
+no_high : (w : List ℕ) → fault_in name_byte w ≡ None → length w ≤ first_high w
 no_high [] e = omega arith
 no_high (b ∷ w) e = go (leb 128 b) (no_high w) e
   where
-    go : (t : Bool) → (fault_in name_byte w ≡ 0 → length w ≤ first_high w) → cond (eqb (cond t 2 0) 0) (fault_in name_byte w) (cond t 2 0) ≡ 0
+    go : (t : Bool) → (fault_in name_byte w ≡ None → length w ≤ first_high w) → first (cond t (Some NotAscii) None) (fault_in name_byte w) ≡ None
         → suc (length w) ≤ cond t 0 (suc (first_high w))
-    go true ih e = absurd (omega arith)
+    go true ih e = never e
     go false ih e = omega (arith, ih e)
 
 header_good : (h : Header) → FineHeader (formats 1) h → GoodHeader h

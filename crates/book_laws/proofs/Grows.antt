@@ -23,13 +23,14 @@ use Rattle.header.specs.Head.{header_bytes, formats, limit_of}
 use Rattle.header.proofs.Head.{FineHeader}
 use Rattle.entry.proofs.Entry.{FineRecord, FineKind, unspelt, spelt, FineEntry}
 use Rattle.book.proofs.Book.{FineEntries, reads_back, OneBook, one_book}
-use Rattle.putting.specs.declared.Made.{Made}
-use Rattle.putting.specs.declared.Made.TheVariants.{Length}
+use Rattle.std.specs.Prelude.{Option, Some, None, Ok, Err}
+use Rattle.terms.specs.declared.Fault.{Fault}
+use Rattle.terms.specs.declared.Fault.TheVariants.{BadNumber}
 use Rattle.starting.specs.New.{cut_fault, new_header}
-use Rattle.putting.specs.Laid.{left, Placed}
+use Rattle.putting.specs.Laid.{left, Placed, Made}
 use Rattle.keying.specs.Keyed.{code_under, keyed, keyed_entry, new_bytes, new_fault}
 use Rattle.book.specs.Room.{read_in}
-use Rattle.keying.proofs.Keyed.{Laid, was_laid, Sound, sound}
+use Rattle.keying.proofs.Keyed.{never, no_length, Laid, was_laid, Sound, sound}
 use Rattle.keying.proofs.Named.{code_fits}
 use Rattle.book.proofs.Room.{Lies, lies}
 use Rattle.fields.proofs.Law.{bytes_take}
@@ -79,7 +80,7 @@ front_of_lem : (room x : List ℕ) → length x ≤ length room → take (length
 front_of_lem room x h = ap (take (length x)) (sets-eq x room 0 (omega arith)) ∙ take_at x (drop (0 + length x) room) (length x) refl
 
 -- ---- STARTING: an accepted start leaves the book of no records
-pub start_reads : (cut : ℕ) (room : List ℕ) (m : ℕ) (room' : List ℕ) → Placed (cut_fault cut) room 0 (header_bytes (new_header cut)) (Length m) room'
+pub start_reads : (cut : ℕ) (room : List ℕ) (m : ℕ) (room' : List ℕ) → Placed (cut_fault cut) room 0 (header_bytes (new_header cut)) (Ok m) room'
     → read_book (take m room') ≡ good (record { header = new_header cut; records = [] }) m
 unfolding written
 start_reads cut room m room' x =
@@ -91,11 +92,11 @@ start_reads cut room m room' x =
     let k : length (written (new_header cut) []) ≡ m = omega (arith, y.long, length-append w []) in
     ap read_book b ∙ reads_back (formats 1) (new_header cut) [] (fine cut y.none) all.none ∙ ap (good (record { header = new_header cut; records = [] })) k
   where
-    fine : (cut : ℕ) → cut_fault cut ≡ 0 → FineHeader (formats 1) (new_header cut)
+    fine : (cut : ℕ) → cut_fault cut ≡ None → FineHeader (formats 1) (new_header cut)
     fine cut e = go (ltb cut (2 ^ 28)) refl e
       where
-        go : (t : Bool) → ltb cut (2 ^ 28) ≡ t → ◌≡◌ {A = ℕ} (cond t 0 5) 0 → FineHeader (formats 1) (new_header cut)
-        go false d e = absurd (omega arith)
+        go : (t : Bool) → ltb cut (2 ^ 28) ≡ t → cond t None (Some BadNumber) ≡ None → FineHeader (formats 1) (new_header cut)
+        go false d e = never e
         go true d e = record {
           front = record { small = omega arith; judged = refl };
           behind = record { front = record { small = omega arith; judged = refl }; behind = record { small = ltb-true _ _ d; judged = refl } };
@@ -118,18 +119,18 @@ pub record Grown (room : List ℕ) (len station : ℕ) (name : List ℕ) (m : �
   pub before : read_in room len ≡ good b n
   pub after : read_book (take m room') ≡ good (record { header = b.header; records = (add_base room len b (new_bytes b.header station name)).records ++ keyed_entry b.header station name ∷ [] }) m
 
-pub add_reads : (room : List ℕ) → Bytes room → (len station : ℕ) (name : List ℕ) (m : ℕ) (room' : List ℕ) → Added room len station name (Length m) room' → Grown room len station name m room'
+pub add_reads : (room : List ℕ) → Bytes room → (len station : ℕ) (name : List ℕ) (m : ℕ) (room' : List ℕ) → Added room len station name (Ok m) room' → Grown room len station name m room'
 unfolding new_bytes
 add_reads room bs len station name m room' y = go (read_in room len) refl y.answer y.leaves
   where
-    fault : ℕ → ℕ
+    fault : ℕ → Option Fault
     fault floor = new_fault floor station name
 
     new : Header → List ℕ
     new h = new_bytes h station name
 
     on : (b : Book) (n : ℕ) → read_in room len ≡ good b n → (base : Base) → FineBase b.header base → FineHeader (formats 1) b.header
-        → Length m ≡ add_placed (λ floor. new_fault floor station name) room base (new_bytes b.header station name)
+        → Ok m ≡ add_placed (λ floor. new_fault floor station name) room base (new_bytes b.header station name)
         → room' ≡ add_left (add_placed (λ floor. new_fault floor station name) room base (new_bytes b.header station name)) room base (new_bytes b.header station name)
         → read_book (take m room') ≡ good (record { header = b.header; records = base.records ++ keyed_entry b.header station name ∷ [] }) m
     on b n e base f fh p q =
@@ -147,9 +148,9 @@ add_reads room bs len station name m room' y = go (read_in room len) refl y.answ
         (fine_more h.format 0 base.records k f.fine (record { front = live_kind h.format; behind = fine_keyed h (floor_of 0 base.records) station name (sound (floor_of 0 base.records) station name l.none) }))
         ∙ ap (good (record { header = h; records = base.records ++ k ∷ [] })) (ap length (sym x) ∙ z)
 
-    go : (x : Got Book) → read_in room len ≡ x → Length m ≡ add_answer (λ floor. new_fault floor station name) (λ h. new_bytes h station name) room len x
+    go : (x : Got Book) → read_in room len ≡ x → Ok m ≡ add_answer (λ floor. new_fault floor station name) (λ h. new_bytes h station name) room len x
         → room' ≡ add_leaves (λ floor. new_fault floor station name) (λ h. new_bytes h station name) room len x → Grown room len station name m room'
-    go (bad f) e p q = let z : ◌≡◌ {A = ℕ} 0 1 = cc in absurd (omega arith)
+    go (bad f) e p q = no_length (sym p)
     go (good b n) e p q =
         let s : Lies (formats 1) room len b n = lies (formats 1) room len b n e in
         let o : OneBook (formats 1) (take len room) b n = one_book (formats 1) (take len room) (bytes_take len room bs) b n s.reads in

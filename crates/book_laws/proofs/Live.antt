@@ -8,6 +8,8 @@ use borrow.Author.Tests.{le-ltb, eqb-true}
 use lib.Dec.{eqb}
 use lib.ListN.{length, take}
 use Rattle.number.specs.Septets.{Bytes}
+use Rattle.std.specs.Prelude.{Option}
+use Rattle.terms.specs.declared.Fault.{Fault}
 use Rattle.fields.specs.Got.{good}
 use Rattle.fields.proofs.All as all
 use Rattle.entry.specs.Entry.{Entry, above, is_live}
@@ -36,7 +38,7 @@ live_fines format floor least h (e ∷ es) (all.more x xs) = go (λ low k. live_
     go ih true = all.more (lower format floor least e h x) (ih (above e) (omega arith))
     go ih false = ih least (omega (arith, not_below floor e.body.station x.behind.front.judged))
 
-pub live_reads : (judge : ℕ → ℕ) (l : List ℕ) → Bytes l → (b : Book) (n : ℕ) → read_book_by judge l ≡ good b n
+pub live_reads : (judge : ℕ → Option Fault) (l : List ℕ) → Bytes l → (b : Book) (n : ℕ) → read_book_by judge l ≡ good b n
     → read_book_by judge (written b.header (live b.records)) ≡ good (record { header = b.header; records = live b.records }) (length (written b.header (live b.records)))
 live_reads judge l bs b n e =
     let o : OneBook judge l b n = one_book judge l bs b n e in

@@ -13,8 +13,6 @@ use Rattle.telling_books.proofs.tell_whole.Kinds as whole_Kinds
 use Rattle.telling_books.proofs.tell_whole.Reads as whole
 use Rattle.telling_books.proofs.tell_ended.Kinds as ended-kinds
 use Rattle.telling_books.proofs.tell_ended.Reads as ended
-use Rattle.telling_books.proofs.tell_joined.Kinds as joined-kinds
-use Rattle.telling_books.proofs.tell_joined.Reads as joined
 use contract.Lifetimes.{Lfts}
 
 module _ (κs : Lfts 1) (a : Dens κs made-kinds.ps) (x y : (res_t made-kinds.r κs).Denot) (s t : AtExit (ended_of 1 made-kinds.ps made-kinds.r) κs) where
@@ -36,7 +34,3 @@ module _ (κs : Lfts 1) (a : Dens κs whole_Kinds.ps) (x y : (res_t whole_Kinds.
 module _ (κs : Lfts 1) (a : Dens κs ended-kinds.ps) (x y : (res_t ended-kinds.r κs).Denot) (s t : AtExit (ended_of 1 ended-kinds.ps ended-kinds.r) κs) where
   pub one_ended : ended.Post κs a x s → ended.Post κs a y t → s.1.0.now ≡ t.1.0.now
   one_ended p q = p ∙ sym q
-
-module _ (κs : Lfts 1) (a : Dens κs joined-kinds.ps) (x y : (res_t joined-kinds.r κs).Denot) (s t : AtExit (ended_of 1 joined-kinds.ps joined-kinds.r) κs) where
-  pub one_joined : joined.Post κs a x s → joined.Post κs a y t → s.1.0.now ≡ t.1.0.now
-  one_joined p q = p ∙ sym q

@@ -1,45 +1,35 @@
 -- The answers of the book and the join as a host's numbers.
-use Rattle.std.specs.Prelude.{ℕ, List, [], ◌∷◌}
+use Rattle.std.specs.Prelude.{ℕ, List, [], ◌∷◌, Option, Some, None, Result, Ok, Err}
+use Rattle.terms.specs.declared.Fault.{Fault}
+use Rattle.terms.specs.Faults.{number_of}
 use Rattle.header.specs.declared.Opened.{Opened}
-use Rattle.entry.specs.declared.Step.{Step}
-use Rattle.book.specs.declared.Reading.{Reading}
-use Rattle.book.specs.declared.Ended.{Ended}
-use Rattle.putting.specs.declared.Made.{Made}
-use Rattle.pairing.specs.declared.Joined.{Joined}
-use Rattle.header.specs.declared.Opened.TheVariants as opened
-use Rattle.entry.specs.declared.Step.TheVariants as step
-use Rattle.book.specs.declared.Reading.TheVariants as whole
-use Rattle.book.specs.declared.Ended.TheVariants as ended
-use Rattle.putting.specs.declared.Made.TheVariants as made
-use Rattle.pairing.specs.declared.Joined.TheVariants as joined
+use Rattle.entry.specs.declared.Record.{Record}
+use Rattle.book.specs.declared.End.{End}
+use Rattle.book.specs.declared.Whole.{Whole}
 
--- number and length
-abbrev pub made_numbers : Made → List ℕ
-made_numbers (made.Length n) = 0 ∷ n ∷ []
-made_numbers (made.Fault f) = f ∷ 0 ∷ []
+-- number, and length or count
+abbrev pub made_numbers : Result ℕ Fault → List ℕ
+made_numbers (Ok n) = 0 ∷ n ∷ []
+made_numbers (Err f) = number_of f ∷ 0 ∷ []
 
 -- number, format, edition, cut, and the first cursor
-abbrev pub opened_numbers : Opened → List ℕ
-opened_numbers (opened.Book h c) = 0 ∷ h.format ∷ h.edition ∷ h.cut ∷ c.at ∷ c.floor ∷ []
-opened_numbers (opened.Fault f) = f ∷ 0 ∷ 0 ∷ 0 ∷ 0 ∷ 0 ∷ []
+abbrev pub opened_numbers : Result Opened Fault → List ℕ
+opened_numbers (Ok o) = 0 ∷ o.header.format ∷ o.header.edition ∷ o.header.cut ∷ o.first.at ∷ o.first.floor ∷ []
+opened_numbers (Err f) = number_of f ∷ 0 ∷ 0 ∷ 0 ∷ 0 ∷ 0 ∷ []
 
 -- number, 1 for a record, station, name, primary, alternate, the next cursor, and the kind
-abbrev pub step_numbers : Step → List ℕ
-step_numbers (step.Record v n p a c k) = 0 ∷ 1 ∷ v ∷ n.start ∷ n.len ∷ p.start ∷ p.len ∷ a.start ∷ a.len ∷ c.at ∷ c.floor ∷ k ∷ []
-step_numbers step.End = 0 ∷ 0 ∷ 0 ∷ 0 ∷ 0 ∷ 0 ∷ 0 ∷ 0 ∷ 0 ∷ 0 ∷ 0 ∷ 0 ∷ []
-step_numbers (step.Fault f) = f ∷ 0 ∷ 0 ∷ 0 ∷ 0 ∷ 0 ∷ 0 ∷ 0 ∷ 0 ∷ 0 ∷ 0 ∷ 0 ∷ []
+abbrev pub step_numbers : Result (Option Record) Fault → List ℕ
+step_numbers (Ok (Some r)) =
+    0 ∷ 1 ∷ r.station ∷ r.name.start ∷ r.name.len ∷ r.primary.start ∷ r.primary.len ∷ r.alternate.start ∷ r.alternate.len ∷ r.next.at ∷ r.next.floor ∷ r.kind ∷ []
+step_numbers (Ok None) = 0 ∷ 0 ∷ 0 ∷ 0 ∷ 0 ∷ 0 ∷ 0 ∷ 0 ∷ 0 ∷ 0 ∷ 0 ∷ 0 ∷ []
+step_numbers (Err f) = number_of f ∷ 0 ∷ 0 ∷ 0 ∷ 0 ∷ 0 ∷ 0 ∷ 0 ∷ 0 ∷ 0 ∷ 0 ∷ 0 ∷ []
 
 -- number, format, edition, cut, records, the least station of a further record, and how many records are live
-abbrev pub whole_numbers : Reading → List ℕ
-whole_numbers (whole.Book h at m) = 0 ∷ h.format ∷ h.edition ∷ h.cut ∷ m.count ∷ m.floor ∷ m.live ∷ []
-whole_numbers (whole.Fault f) = f ∷ 0 ∷ 0 ∷ 0 ∷ 0 ∷ 0 ∷ 0 ∷ []
+abbrev pub whole_numbers : Result Whole Fault → List ℕ
+whole_numbers (Ok w) = 0 ∷ w.header.format ∷ w.header.edition ∷ w.header.cut ∷ w.measure.count ∷ w.measure.floor ∷ w.measure.live ∷ []
+whole_numbers (Err f) = number_of f ∷ 0 ∷ 0 ∷ 0 ∷ 0 ∷ 0 ∷ 0 ∷ []
 
 -- number, length, and the least station of a further record
-abbrev pub ended_numbers : Ended → List ℕ
-ended_numbers (ended.At e) = 0 ∷ e.len ∷ e.floor ∷ []
-ended_numbers (ended.Fault f) = f ∷ 0 ∷ 0 ∷ []
-
--- number and count of pairs
-abbrev pub joined_numbers : Joined → List ℕ
-joined_numbers (joined.Pairs n) = 0 ∷ n ∷ []
-joined_numbers (joined.Fault f) = f ∷ 0 ∷ []
+abbrev pub ended_numbers : Result End Fault → List ℕ
+ended_numbers (Ok e) = 0 ∷ e.len ∷ e.floor ∷ []
+ended_numbers (Err f) = number_of f ∷ 0 ∷ 0 ∷ []

@@ -3,8 +3,6 @@
 // it may hold any byte but 10; a code holds neither a tab nor byte 10.
 #![tactic(auto)]
 
-use answers::Answer;
-use chosen::{Choice, chosen};
 use encoder::Encoder;
 use itoa::Buffer;
 use std::io;
@@ -56,23 +54,14 @@ fn is_number(text: &[u8], n: usize) -> bool {
 
 // Whether the port's answer for the word is the one that is stored.
 fn is_same(stored: Stored<'_>) -> bool {
-    let mut p = [0u8; CODE_ROOM];
-    let mut a = [0u8; CODE_ROOM];
-    match Encoder::new(stored.limit).encode(stored.word, &mut p, &mut a) {
-        Answer::Coded {
-            primary: np,
-            alternate: na,
-            visits: n,
-        } => {
-            is_number(stored.visits, n)
-                & (stored.primary == chosen(Choice::Primary, &p, np, &a, na))
-                & (stored.alternate == chosen(Choice::Alternate, &p, np, &a, na))
-        }
-        Answer::TooLong => false,
-        Answer::NotAscii(_) => false,
-        Answer::PrimaryShort => false,
-        Answer::AlternateShort => false,
-    }
+    let mut primary = [0u8; CODE_ROOM];
+    let mut alternate = [0u8; CODE_ROOM];
+    let answer = Encoder::new(stored.limit).encode(stored.word, &mut primary, &mut alternate);
+    answer.is_ok_and(|coded| {
+        is_number(stored.visits, coded.visits)
+            && primary.get(..coded.primary) == Some(stored.primary)
+            && alternate.get(..coded.alternate) == Some(stored.alternate)
+    })
 }
 
 // A line that has not its four tabs is wrong.

@@ -1,9 +1,9 @@
--- `replay::replay` is safe and ends, since each turn passes a byte and adds one to one of the counts.
-use Rattle.std.proofs.Common.{◌≤◌, ◌+◌, ◌-◌, length}
+-- `replay::replay` counts no more lines than the text has bytes.
+use Rattle.std.proofs.Common.{◌+◌, ◌≤◌, length}
 use Rattle.replay.proofs.replay.Given as goal
 
-abbrev pub invariant-loop-at : goal.invariant-loop-at
-invariant-loop-at l = (l.right + l.wrong ≤ l.at) × (l.at ≤ length l.initial.text + 1)
-
-abbrev pub decreases-loop-at : goal.decreases-loop-at
-decreases-loop-at l = length l.initial.text + 1 - l.at
+abbrev pub invariant-loop-ended : goal.invariant-loop-ended
+invariant-loop-ended l =
+    (goal.iterator-loop-ended).can_next l.ended-iterator
+    × (goal.iterator-loop-ended).is_finite l.ended-iterator
+    × (l.right + l.wrong + (goal.iterator-loop-ended).remaining l.ended-iterator ≤ length l.text)

@@ -90,7 +90,7 @@ fn answer_all(input: Stdin, output: Stdout) -> Result<(), Failure> {
         .map_err(|_| Failure::CannotWrite)
 }
 
-// A line that is lost is not lost in silence.
+// A line that is lost is not lost in silence. The status stays 0, as it was; ./keys makes 1 of what is said.
 fn main(rt: HostRuntime) {
     if let Err(failure) = answer_all(rt.stdin(), rt.stdout()) {
         let _ = eprintln!(rt; "keys: {failure}");

@@ -65,7 +65,6 @@ impl fmt::Display for Closed {
     }
 }
 
-// The first write that fails ends the print, and `main` tells of it.
 fn put_header(output: Stdout, h: Header) -> io::Result<()> {
     println!(output;
         "format {}, edition {}, {}",
@@ -82,10 +81,9 @@ fn put_record(output: Stdout, s: &[u8], record: Record) -> io::Result<()> {
         output.write_all(b"\t")?;
         output.write_all(slices::bytes_of(s, part))?;
     }
-    output.print(if record.kind == Kind::Live {
-        "\n"
-    } else {
-        "\tclosed\n"
+    output.print(match record.kind {
+        Kind::Live => "\n",
+        Kind::Closed => "\tclosed\n",
     })
 }
 
@@ -132,6 +130,7 @@ fn print_input(input: Stdin, output: Stdout) -> Result<(), Failure> {
     put_book(output, &text[..n]).map_err(|_| Failure::CannotWrite)
 }
 
+// The first call that fails ends the print, and a line on standard error tells of it. The status stays 0, as it was; ./stations makes 1 of it.
 fn main(rt: HostRuntime) {
     if let Err(failure) = print_input(rt.stdin(), rt.stdout()) {
         let _ = eprintln!(rt; "stations: {failure}");

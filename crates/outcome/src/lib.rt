@@ -25,11 +25,7 @@ impl Visit {
     pub fn both(a: Add, over: usize) -> Visit
         ensures { result ≡ answer a a over }
     {
-        Visit {
-            primary: a,
-            alternate: a,
-            over,
-        }
+        Visit::split(a, a, over)
     }
 
     // One for each code.
@@ -57,8 +53,7 @@ impl Spoken {
     pub fn both(case: usize, text: usize, a: Add, over: usize) -> Spoken
         ensures { result ≡ spoke case text (answer a a over) }
     {
-        let visit = Visit::both(a, over);
-        Spoken { case, text, visit }
+        Spoken::split(case, text, a, a, over)
     }
 
     // One for each code.
@@ -82,7 +77,7 @@ impl Spoken {
     }
 }
 
-// The first number, and where it is 0 the second.
+// The first number, and where it is 0 the second. A text's number is 0 where none matched: so it is told (document 02, L6).
 pub fn or_else(first: usize, second: usize) -> usize
     ensures { result ≡ or_else first second }
 {

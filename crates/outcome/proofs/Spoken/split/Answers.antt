@@ -1,7 +1,0 @@
--- `outcome::Spoken::split` meets its contract.
-use mathlib.Core.Path.{ap}
-use Rattle.outcome.specs.Answers.{spoke}
-use Rattle.outcome.proofs.Spoken.split.Goals as goal
-
-pub returns : goal.returns
-returns c = ap (spoke _ _) c.split-visit.ensures

@@ -9,10 +9,11 @@ ghost use Rattle.byte.specs.Vowel.{vowel};
 pub fn capital(b: u8) -> u8
     ensures { result ≡ up b }
 {
-    if (97 <= b) & (b <= 122) { b - 32 } else { b }
+    b.to_ascii_uppercase()
 }
 
-// The vowels as a mask of letters: bit k stands for the letter whose low five bits are k.
+// The vowels as a mask of letters, one test against which document 02, L5 asks for: bit k stands for the letter whose low five bits
+// are k.
 const VOWELS: u32 = 1 << (b'A' & 31)
     | 1 << (b'E' & 31)
     | 1 << (b'I' & 31)

@@ -10,12 +10,6 @@ use Rattle.tally.specs.declared.Tally.{Tally}
 abbrev pub longer : ℕ → ℕ → Add → ℕ
 longer limit len add = len + length (take (limit - len) (bytes_of add))
 
-abbrev pub with_primary : Tally → ℕ → Add → Tally
-with_primary t limit add = record { primary = longer limit t.primary add; alternate = t.alternate; visits = t.visits }
-
-abbrev pub with_alternate : Tally → ℕ → Add → Tally
-with_alternate t limit add = record { primary = t.primary; alternate = longer limit t.alternate add; visits = t.visits }
-
 -- the tally after a visit
 abbrev pub counted : Tally → ℕ → Visit → Tally
 counted t limit v =

@@ -3,7 +3,7 @@
 #![tactic(auto)]
 
 ghost use Rattle.std.specs.Prelude.{◌≡◌, ◌+◌, ◌-◌, ◌<◌, ◌^◌, min};
-ghost use Rattle.tally.specs.Tally.{longer, with_primary, with_alternate, counted};
+ghost use Rattle.tally.specs.Tally.{longer, counted};
 
 use outcome::{Add, Visit};
 
@@ -15,7 +15,8 @@ pub struct Tally {
     pub visits: usize,
 }
 
-// One more where the limit is not reached.
+// One more where the limit is not reached. A test: with the smaller of two numbers in its place, or in that of `longer`, an encoded word
+// takes 4 to 12 % more instructions.
 fn one_longer(len: usize, limit: usize) -> usize
     ensures { result ≡ len + min (limit - len) 1 }
 {
@@ -33,40 +34,19 @@ fn longer(len: usize, limit: usize, add: Add) -> usize
     }
 }
 
-// The primary length takes an addition (the Rust's append_primary).
-fn append_primary(t: Tally, limit: usize, add: Add) -> Tally
-    ensures { result ≡ with_primary t limit add }
-{
-    Tally {
-        primary: longer(t.primary, limit, add),
-        alternate: t.alternate,
-        visits: t.visits,
-    }
-}
-
-// The alternate length takes an addition (the Rust's append_alternate).
-fn append_alternate(t: Tally, limit: usize, add: Add) -> Tally
-    ensures { result ≡ with_alternate t limit add }
-{
-    Tally {
-        primary: t.primary,
-        alternate: longer(t.alternate, limit, add),
-        visits: t.visits,
-    }
-}
-
-// The tally after a visit: each length takes its addition, and the visit counts once. The alternate length comes first, since the
-// walk, which is compiled as one function, takes 4 to 5 % fewer instructions so.
-pub fn counted(t: Tally, limit: usize, visit: Visit) -> Tally
-    requires { t.visits + 1 < 2 ^ 64 }
-    ensures { result ≡ counted t limit visit }
-{
-    let x = visit.primary;
-    let y = visit.alternate;
-    let longer = append_primary(append_alternate(t, limit, y), limit, x);
-    Tally {
-        primary: longer.primary,
-        alternate: longer.alternate,
-        visits: longer.visits + 1,
+impl Tally {
+    // The tally after a visit: each length takes its addition (the Rust's append_primary and append_alternate), and the visit counts
+    // once. The alternate length comes first, since the walk, which is compiled as one function, takes 4 to 5 % fewer instructions so.
+    pub fn counted(self, limit: usize, visit: Visit) -> Tally
+        requires { self.visits + 1 < 2 ^ 64 }
+        ensures { result ≡ counted self limit visit }
+    {
+        let alternate = longer(self.alternate, limit, visit.alternate);
+        let primary = longer(self.primary, limit, visit.primary);
+        Tally {
+            primary,
+            alternate,
+            visits: self.visits + 1,
+        }
     }
 }

@@ -1,5 +1,5 @@
 // One visit with the running tally: it is lent to the rule, as the Rust lends its DoubleMetaphoneResult, and taken back.
-#![tactic(auto)]
+#![tactic(auto, using(rules::proofs::Told::spoken_visit))]
 
 ghost use Rattle.std.specs.Prelude.{◌≡◌, ◌+◌, ◌<◌, ◌^◌};
 ghost use Rattle.byte.specs.Text.{upper};
@@ -24,9 +24,8 @@ pub fn visit_into(
     requires { t.old.visits + 1 < 2 ^ 64 }
     ensures { (t.new ≡ counted t.old limit result) × (result ≡ visit (upper w.now) at (mode slavo second)) }
 {
-    let spoken = letters::visit_at(w, at, slavo, second);
-    let visit = spoken.visit;
-    *t = tally::counted(*t, limit, visit);
+    let visit = letters::visit_at(w, at, slavo, second).visit;
+    *t = t.counted(limit, visit);
     visit
 }
 
@@ -38,11 +37,17 @@ pub struct Visited {
 }
 
 // The owner: lends its tally to the rule and hands it back. Whoever calls it lends nothing.
-pub fn visit_with(t: Tally, limit: usize, w: &[u8], at: usize, slavo: bool, second: bool) -> Visited
+pub fn visit_with(
+    mut t: Tally,
+    limit: usize,
+    w: &[u8],
+    at: usize,
+    slavo: bool,
+    second: bool,
+) -> Visited
     requires { t.visits + 1 < 2 ^ 64 }
     ensures { result ≡ visited t limit (visit (upper w.now) at (mode slavo second)) }
 {
-    let mut own = t;
-    let visit = visit_into(&mut own, limit, w, at, slavo, second);
-    Visited { tally: own, visit }
+    let visit = visit_into(&mut t, limit, w, at, slavo, second);
+    Visited { tally: t, visit }
 }

@@ -39,26 +39,22 @@ impl Encoder {
     pub fn encode(self, word: &[u8], primary: &mut [u8], alternate: &mut [u8]) -> Answer
         ensures { Encoded self.edition self.limit word.now primary.old alternate.old result primary.new alternate.new }
     {
-        let limit = self.limit;
-        let edition = self.edition;
         if WORD_LIMIT < word.len() {
             return Err(Refusal::TooLong);
         }
         if !ascii::is_ascii(word) {
             return Err(Refusal::NotAscii(ascii::first_high(word)));
         }
-        let from = trimming::front(word);
-        let len = trimming::back(&word[from..]);
-        let end = from + len;
-        let need = needs::need_of(limit, len);
+        let inner = trimming::trimmed(word);
+        let need = needs::need_of(self.limit, inner.len());
         if primary.len() < need {
             return Err(Refusal::PrimaryShort);
         }
         if alternate.len() < need {
             return Err(Refusal::AlternateShort);
         }
-        let cap = needs::cap_of(limit, len);
-        let tally = walk::walk(&word[from..end], edition, cap, primary, alternate);
+        let cap = needs::cap_of(self.limit, inner.len());
+        let tally = walk::walk(inner, self.edition, cap, primary, alternate);
         Ok(Coded {
             primary: tally.primary,
             alternate: tally.alternate,

@@ -17,15 +17,13 @@ use Rattle.terms.specs.Limits.{Limit}
 use Rattle.std.specs.Prelude.{Ok, Err}
 use Rattle.answers.specs.declared.Coded.{Coded}
 use Rattle.answers.specs.declared.CallRefusal.{CallRefusal}
-use Rattle.answers.specs.declared.Refusal.{Refusal}
-use Rattle.answers.specs.Numbers.{Reply}
 use Rattle.answers.specs.declared.Refusal.TheVariants as refusal
 use Rattle.answers.specs.declared.CallRefusal.TheVariants as call
 use Rattle.trimming.specs.Trim.{trimmed}
 use Rattle.ascii.specs.High.{first_high}
 use Rattle.terms.specs.Limits.{word_limit}
 use Rattle.encoder.specs.Encode.{Answer, visit_count, answer_of, visits_under, Encoded}
-use Rattle.editions.specs.Editions.{replied, reply_of, reply_number, EncodedIn}
+use Rattle.editions.specs.Editions.{replied, EncodedIn}
 use Rattle.trimming.proofs.Trim.{trimmed_length}
 use Rattle.demands.proofs.Demand2.{code_accepted, code_walked}
 use Rattle.editions.proofs.Editions.{edition_seven, edition_encoded}

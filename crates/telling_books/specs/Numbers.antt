@@ -4,6 +4,7 @@ use Rattle.terms.specs.declared.Fault.{Fault}
 use Rattle.terms.specs.Faults.{number_of}
 use Rattle.header.specs.declared.Opened.{Opened}
 use Rattle.entry.specs.declared.Record.{Record}
+use Rattle.entry.specs.Kinds as kinds
 use Rattle.book.specs.declared.End.{End}
 use Rattle.book.specs.declared.Whole.{Whole}
 
@@ -20,7 +21,7 @@ opened_numbers (Err f) = number_of f ∷ 0 ∷ 0 ∷ 0 ∷ 0 ∷ 0 ∷ []
 -- number, 1 for a record, station, name, primary, alternate, the next cursor, and the kind
 abbrev pub step_numbers : Result (Option Record) Fault → List ℕ
 step_numbers (Ok (Some r)) =
-    0 ∷ 1 ∷ r.station ∷ r.name.start ∷ r.name.len ∷ r.primary.start ∷ r.primary.len ∷ r.alternate.start ∷ r.alternate.len ∷ r.next.at ∷ r.next.floor ∷ r.kind ∷ []
+    0 ∷ 1 ∷ r.station ∷ r.name.start ∷ r.name.len ∷ r.primary.start ∷ r.primary.len ∷ r.alternate.start ∷ r.alternate.len ∷ r.next.at ∷ r.next.floor ∷ kinds.number_of r.kind ∷ []
 step_numbers (Ok None) = 0 ∷ 0 ∷ 0 ∷ 0 ∷ 0 ∷ 0 ∷ 0 ∷ 0 ∷ 0 ∷ 0 ∷ 0 ∷ 0 ∷ []
 step_numbers (Err f) = number_of f ∷ 0 ∷ 0 ∷ 0 ∷ 0 ∷ 0 ∷ 0 ∷ 0 ∷ 0 ∷ 0 ∷ 0 ∷ 0 ∷ []
 

@@ -54,7 +54,7 @@ pub fn tell_step(next: Result<Option<Record>, Fault>, out: &mut [u64; 12])
             record.alternate.len as u64,
             record.next.at as u64,
             record.next.floor as u64,
-            record.kind as u64,
+            u32::from(record.kind) as u64,
         ],
         Ok(None) => [0; 12],
         Err(fault) => [u8::from(fault) as u64, 0, 0, 0, 0, 0, 0, 0, 0, 0, 0, 0],

@@ -1,7 +1,7 @@
 // The line reader: reads standard input in blocks, and writes for each line what `lines` makes of it.
 #![tactic(auto)]
 
-ghost use Rattle.std.specs.Prelude.{◌≡◌, ◌≤◌, length};
+ghost use Rattle.std.specs.Prelude.{◌≤◌, length};
 ghost use Rattle.line.specs.Line.{line_room};
 
 use line::LINE_ROOM;
@@ -25,15 +25,8 @@ impl fmt::Display for Failure {
     }
 }
 
-// 65,536 zeros. As a function's result they are made where they are kept, and no caller's proof writes them out.
-fn large_buffer() -> [u8; 65536]
-    ensures { 65536 ≡ length result }
-{
-    [0; 65536]
-}
-
 // Feeds a block, and writes what that gives each time that `out` is full and at the block's end, so that no line waits for the next read.
-// Answers how many bytes are held of the line that is not ended.
+// Answers how many bytes are held of the line that is not ended. How much of the block a feed takes is known only behind it.
 fn drain(
     output: Stdout,
     block: &[u8],
@@ -57,7 +50,7 @@ fn drain(
 // Reads to the end. A read may give fewer bytes than there is room for; it gives none at the end of the input. Nothing says that the
 // input ends, so the reads are as many as no run uses up.
 fn read_all(
-    input: Stdin,
+    mut input: Stdin,
     output: Stdout,
     block: &mut [u8],
     word: &mut [u8; WORD_LIMIT],
@@ -65,10 +58,9 @@ fn read_all(
 ) -> Result<usize, Failure>
     requires { line_room ≤ length out.old }
 {
-    let mut from = input;
     let mut held = 0;
     for _ in 0..u64::MAX {
-        let n = from.read(block).map_err(|_| Failure::CannotRead)?;
+        let n = input.read(block).map_err(|_| Failure::CannotRead)?;
         if n == 0 {
             break;
         }
@@ -79,9 +71,9 @@ fn read_all(
 
 // Where a call failed, the line that is held may be cut, and is not answered.
 fn answer_all(input: Stdin, output: Stdout) -> Result<(), Failure> {
-    let mut block = large_buffer();
+    let mut block: [u8; 65536] = rooms::zeros();
     let mut word = [0u8; WORD_LIMIT];
-    let mut out = large_buffer();
+    let mut out: [u8; 65536] = rooms::zeros();
     let mut last = [0u8; LINE_ROOM];
     let held = read_all(input, output, &mut block, &mut word, &mut out)?;
     let n = lines::finish(&word, held, &mut last);

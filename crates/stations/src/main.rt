@@ -87,7 +87,7 @@ fn put_record(output: Stdout, s: &[u8], record: Record) -> io::Result<()> {
     })
 }
 
-// The records from a cursor on, to the end or to the first fault.
+// The records from a cursor on, to the end or to the first fault. Each tells where the next begins, so a cursor goes along.
 fn put_records(output: Stdout, s: &[u8], header: Header, first: Cursor) -> io::Result<()> {
     let mut cursor = first;
     let mut count = 0;
@@ -119,12 +119,11 @@ fn put_book(output: Stdout, s: &[u8]) -> io::Result<()> {
 }
 
 // The first read ends at a full room, at the end or at a read that fails; one byte more tells which it was.
-fn print_input(input: Stdin, output: Stdout) -> Result<(), Failure> {
+fn print_input(mut input: Stdin, output: Stdout) -> Result<(), Failure> {
     let mut text = rooms::mebibyte();
     let mut behind = [0u8; 1];
     let n = rooms::read_full(input, &mut text);
-    let mut from = input;
-    if from.read(&mut behind).map_err(|_| Failure::CannotRead)? > 0 {
+    if input.read(&mut behind).map_err(|_| Failure::CannotRead)? > 0 {
         return Err(Failure::TooLong);
     }
     put_book(output, &text[..n]).map_err(|_| Failure::CannotWrite)

@@ -1,5 +1,5 @@
 -- Laws of two books that are to be joined.
---     Books      what is told of a book that was read, and of two that meet or are refused; stations are small
+--     Books      two that meet or are refused; the records of a book that reads; stations are small
 --     NoChoice   no public function's promise leaves a choice
 pub mod Books
 pub mod NoChoice

@@ -1,7 +1,7 @@
 -- Laws of the join.
 --     Laying     both books laid out in one scratch
---     Books      from two books that meet to what is promised of them
+--     Meet       from two books that meet to what is promised of them
 --     NoChoice   no public function's promise leaves a choice
 pub mod Laying
-pub mod Books
+pub mod Meet
 pub mod NoChoice

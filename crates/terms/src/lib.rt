@@ -47,31 +47,6 @@ impl From<Fault> for u8 {
     }
 }
 
-// The refusals of documents 01 and 02 that a book, a join or a listing may show, by name.
-pub const TOO_LONG: u8 = 1;
-
-pub const NOT_ASCII: u8 = 2;
-
-// A number in a bad form, or none that a book can hold.
-pub const BAD_NUMBER: u8 = 5;
-
-// The book ends inside something.
-pub const BOOK_ENDS: u8 = 6;
-
-// A format, an edition or a kind that is not known.
-pub const NOT_KNOWN: u8 = 7;
-
-// A station that is not above the one before.
-pub const NOT_ABOVE: u8 = 8;
-
-// Lent room or scratch that is too short.
-pub const NO_ROOM: u8 = 9;
-
-pub const EDITIONS_DIFFER: u8 = 10;
-
-// No live record of the station.
-pub const NO_LIVE: u8 = 11;
-
 // The longest word that is taken, before trimming.
 pub const WORD_LIMIT: usize = 1024;
 

@@ -6,9 +6,8 @@ use lib.ListN.{length}
 use Rattle.terms.specs.declared.Edition.TheVariants.{E1}
 use Rattle.terms.specs.Limits.{Limit}
 use Rattle.encoder.specs.declared.Encoder.{Encoder}
-use Rattle.answers.specs.declared.Answer.{Answer}
-use Rattle.answers.specs.declared.Reply.{Reply}
-use Rattle.encoder.specs.Encode.{encoder_of, answer_of, Encoded}
+use Rattle.answers.specs.Numbers.{Reply}
+use Rattle.encoder.specs.Encode.{Answer, encoder_of, answer_of, Encoded}
 use Rattle.editions.specs.Editions.{reply_of, EncodedIn}
 use Rattle.answers.specs.Numbers.{answer_numbers, reply_numbers}
 

@@ -8,8 +8,8 @@ use Rattle.encoder.proofs.Encoder.in_edition.Kinds as in-edition-kinds
 use Rattle.encoder.proofs.Encoder.in_edition.Reads as in-edition
 use Rattle.encoder.proofs.Encoder.new.Kinds as new-kinds
 use Rattle.encoder.proofs.Encoder.new.Reads as new
-use Rattle.encoder.proofs.Encoder.default.Kinds as default-kinds
-use Rattle.encoder.proofs.Encoder.default.Reads as default
+use Rattle.encoder.proofs.EncoderDefault.default.Kinds as default-kinds
+use Rattle.encoder.proofs.EncoderDefault.default.Reads as default
 use Rattle.encoder.proofs.Encoder.encode.Kinds as encode-kinds
 use Rattle.encoder.proofs.Encoder.encode.Reads as encode
 use contract.Lifetimes.{Lfts}

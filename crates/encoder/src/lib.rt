@@ -2,6 +2,7 @@
 #![tactic(auto)]
 
 ghost use Rattle.std.specs.Prelude.{◌≡◌, Some};
+ghost use Rattle.terms.specs.declared.Edition.TheVariants.{E1};
 ghost use Rattle.encoder.specs.Encode.{encoder_of, default_limit, Encoded};
 
 use answers::{Answer, Coded, Refusal};
@@ -11,6 +12,15 @@ use terms::{Edition, Limit, WORD_LIMIT};
 pub struct Encoder {
     pub limit: Limit,
     pub edition: Edition,
+}
+
+// Edition 1 under the default limit.
+impl Default for Encoder {
+    ghost is_default = { λ encoder. encoder ≡ encoder_of E1 (Some default_limit) };
+
+    fn default() -> Self {
+        Self::in_edition(Edition::E1, Some(Self::DEFAULT_LIMIT))
+    }
 }
 
 impl Encoder {
@@ -27,12 +37,6 @@ impl Encoder {
         ensures { result ≡ encoder_of Edition.E1 limit }
     {
         Self::in_edition(Edition::E1, limit)
-    }
-
-    pub fn default() -> Self
-        ensures { result ≡ encoder_of Edition.E1 (Some default_limit) }
-    {
-        Self::in_edition(Edition::E1, Some(Encoder::DEFAULT_LIMIT))
     }
 
     // The checks run in document 01's order, on the word as it is lent; only then is it trimmed and walked.

@@ -18,7 +18,8 @@ use Rattle.fields.proofs.Law.{same_fault}
 use Rattle.fields.proofs.Faults.{Only, Judged, only_number, only_text, only_both, only_mapped, only_all}
 use Rattle.terms.specs.Editions.{last_edition, last_format}
 use Rattle.header.specs.declared.Header.{Header}
-use Rattle.entry.specs.Entry.{Entry, kinds, rising, record_of, entry_of, read_record, read_kind, read_entry, above}
+use Rattle.entry.specs.Entry.{Entry, rising, record_of, entry_of, read_record, read_kind, read_entry, above}
+use Rattle.entry.specs.Kinds.{kinds}
 use Rattle.name.specs.Named.{name_length, name_byte}
 use Rattle.book.specs.Book.{Book, read_entries, under, behind_header, read_book_by, read_book}
 use Rattle.header.specs.Head.{known, formats, editions, header_of, read_header_by}

@@ -25,7 +25,7 @@ use Rattle.header.specs.Head.{known, formats}
 use Rattle.header.proofs.Head.{FineHeader, known_good}
 use Rattle.entry.proofs.Entry.{FineRecord, FineKind, unspelt, spelt, kind_low, kind_one}
 use Rattle.book.proofs.Book.{FineEntries, reads_back, OneBook, one_book}
-use Rattle.entry.proofs.Kind.{kind_good}
+use Rattle.entry.proofs.Records.{kind_good}
 use Rattle.book_laws.specs.Good.{GoodHeader, GoodRecord, GoodRecords, none, more}
 use Rattle.fields.proofs.All as all
 

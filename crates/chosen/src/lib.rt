@@ -17,7 +17,8 @@ fn front_of(buf: &[u8], n: usize) -> &[u8]
     buf.get(..n).unwrap_or(&[])
 }
 
-// The chosen code, as a part of the buffer it lies in.
+// The chosen code, as a part of the buffer it lies in. The lengths stand beside the buffers, since a stated one may exceed its buffer
+// (document 01, whose form this is): then the part is empty.
 pub fn chosen<'a>(
     choice: Choice,
     primary: &'a [u8],

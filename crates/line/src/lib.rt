@@ -5,6 +5,7 @@ ghost use Rattle.std.specs.Prelude.{◌≡◌, [], ◌∷◌, ◌+◌, ◌≤◌
 ghost use Rattle.line.specs.Line.{line_of, line_room, Lies};
 
 use encoder::Encoder;
+use std::ops::Range;
 
 // The longest line that is written: two codes, a tab and byte 10.
 pub const LINE_ROOM: usize = 2 * Encoder::DEFAULT_LIMIT + 2;
@@ -13,26 +14,19 @@ pub const LINE_ROOM: usize = 2 * Encoder::DEFAULT_LIMIT + 2;
 // the alternate code where it stays; the primary code, whose length is known only after it, is put before the tab.
 const TAB: usize = Encoder::DEFAULT_LIMIT;
 
-// Where a line lies in its buffer.
-#[derive(Clone, Copy)]
-pub struct Span {
-    pub start: usize,
-    pub end: usize,
-}
-
 // The line of a refusal.
-pub fn refuse(line: &mut [u8], number: u8) -> Span
+pub fn refuse(line: &mut [u8], number: u8) -> Range<usize>
     requires { (length line.old ≡ line_room) × (number ≤ 4) }
     ensures { Lies (33 ∷ (48 + number) ∷ 10 ∷ []) result line.new }
 {
     line[0] = b'!';
     line[1] = b'0' + number;
     line[2] = 10;
-    Span { start: 0, end: 3 }
+    0..3
 }
 
 // The line of a word, built in one piece: the encoder writes the alternate code behind the tab, in the same line buffer.
-pub fn build_line(word: &[u8], line: &mut [u8]) -> Span
+pub fn build_line(word: &[u8], line: &mut [u8]) -> Range<usize>
     requires { length line.old ≡ line_room }
     ensures { Lies (line_of word.now) result line.new }
 {
@@ -45,10 +39,7 @@ pub fn build_line(word: &[u8], line: &mut [u8]) -> Span
             copying::copy_to(line, start, &code[..coded.primary]);
             let end = behind + coded.alternate;
             line[end] = 10;
-            Span {
-                start,
-                end: end + 1,
-            }
+            start..end + 1
         }
         Err(refusal) => refuse(line, u8::from(refusal)),
     }

@@ -7,7 +7,8 @@ ghost use Rattle.line.specs.Line.{line_of, line_room, Lies};
 ghost use Rattle.lines.specs.Feed.{hand, keep, Holds, Fed, Finished};
 ghost use Rattle.lines.specs.Inside.{Answered, Stepped};
 
-use line::{LINE_ROOM, Span};
+use line::LINE_ROOM;
+use std::ops::Range;
 use terms::WORD_LIMIT;
 
 // The bytes of output so far, and the bytes held of the line that is not ended.
@@ -27,7 +28,7 @@ pub struct Progress {
 }
 
 // The line of the held bytes.
-fn held_line(word: &[u8], held: usize, line: &mut [u8]) -> Span
+fn held_line(word: &[u8], held: usize, line: &mut [u8]) -> Range<usize>
     requires { (word_limit ≤ length word.now) × (length line.old ≡ line_room) }
     ensures { (p : List ℕ) → Holds p (hand held word.now) → Lies (line_of p) result line.new }
 {
@@ -82,10 +83,9 @@ fn step(b: u8, word: &mut [u8], held: usize, out: &mut [u8], wrote: usize) -> Co
 pub fn feed(block: &[u8], word: &mut [u8; WORD_LIMIT], held: usize, out: &mut [u8]) -> Progress
     ensures { Fed block.now (hand held word.old) out.old result word.new out.new }
 {
-    let mut used = 0;
     let mut wrote = 0;
     let mut count = held;
-    while used < block.len() {
+    for (used, b) in block.iter().enumerate() {
         if out.len() - wrote < LINE_ROOM {
             return Progress {
                 used,
@@ -93,13 +93,12 @@ pub fn feed(block: &[u8], word: &mut [u8; WORD_LIMIT], held: usize, out: &mut [u
                 held: count,
             };
         }
-        let s = step(block[used], word, count, out, wrote);
+        let s = step(*b, word, count, out, wrote);
         wrote = s.wrote;
         count = s.held;
-        used += 1;
     }
     Progress {
-        used,
+        used: block.len(),
         wrote,
         held: count,
     }

@@ -2,8 +2,9 @@
 -- room for a line.
 use mathlib.Core.Path.{refl, sym, ap, ◌∙◌}
 use native.Mathlib.Omega.{arith}
+use Rattle.std.proofs.Common.{ℕ, ◌≡◌, ◌<◌, length, subst}
 use lib.ListN.{take, get_or}
-use Rattle.lines.specs.Feed.{Hand, hand, next, after}
+use Rattle.lines.specs.Feed.{Hand, hand, next, after, Fed}
 use Rattle.lines.proofs.Hand.{holds_at, after_one}
 use Rattle.lines.proofs.Read.{read_none, read_on}
 use Rattle.lines.proofs.feed.Goals as goal
@@ -30,9 +31,9 @@ loop-used-preserved c =
     let i = at.invariant in
     let a = c.args in
     let s = c.step-s in
-    let inside = c.loop-used-test.true in
+    let inside : at.used < length a.block.now = omega arith in
     record {
-      passed = omega (arith, inside);
+      passed = omega arith;
       fits = omega (arith, s.ensures.short, i.out_long);
       out_long = s.auto.out ∙ i.out_long;
       held_is = s.ensures.held ∙ ap (λ (h : Hand). next (get_or a.block.now at.used 0) h) i.held_is ∙ sym (after_one a.block.now at.used inside _);
@@ -43,5 +44,10 @@ loop-used-preserved c =
 
 pub returns : goal.returns
 returns c =
-    let i = c.loop-used.invariant in
-    record { within = i.passed; fits = i.fits; early = λ l. omega (arith, c.loop-used-test.false); held = i.held_is; read = i.read }
+    let at = c.loop-used in
+    let i = at.invariant in
+    let a = c.args in
+    let all : at.used ≡ length a.block.now = omega arith in
+    subst
+    (λ (n : ℕ). Fed a.block.now (hand a.held a.word.now) a.out.now (record { used = n; wrote = at.wrote; held = at.count }) at.word at.out) all
+    (record { within = i.passed; fits = i.fits; early = λ l. absurd (omega arith); held = i.held_is; read = i.read })

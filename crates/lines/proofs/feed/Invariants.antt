@@ -1,6 +1,6 @@
 -- `lines::feed` meets its contract, since the bytes passed were read, what they leave of a line is held, and before each there was
 -- room for a line.
-use Rattle.std.proofs.Common.{ℕ, List, ◌≡◌, ◌-◌, ◌≤◌, length}
+use Rattle.std.proofs.Common.{ℕ, List, ◌≡◌, ◌≤◌, length}
 use lib.ListN.{take}
 use Rattle.lines.specs.Feed.{hand, Holds, after, Read}
 use Rattle.lines.proofs.feed.Given as goal
@@ -14,6 +14,3 @@ pub record Inv (block word₀ : List ℕ) (held : ℕ) (out₀ word out : List �
 
 abbrev pub invariant-loop-used : goal.invariant-loop-used
 invariant-loop-used l = Inv l.block l.initial.word l.fn.held l.initial.out l.word l.out l.used l.wrote l.count
-
-abbrev pub decreases-loop-used : goal.decreases-loop-used
-decreases-loop-used l = length l.block - l.used

@@ -17,12 +17,9 @@ pub fn put_rows(t: &[u8], second: bool, visits: usize, rows: &mut [u32])
 {
     let slavo = word::is_slavo_germanic(t);
     let mut at = word::start_of(t);
-    let mut k = 0;
-    while k < visits {
+    for k in 0..visits {
         let spoken = letters::visit_at(t, at, slavo, second);
-        let visit = spoken.visit;
         row::put_row(rows, ROW * k, byte::capital(t[at]), at, spoken);
-        at = at + 1 + visit.over;
-        k += 1;
+        at = at + 1 + spoken.visit.over;
     }
 }

@@ -26,6 +26,7 @@ pub fn read_full(mut input: Stdin, room: &mut [u8]) -> usize
     ensures { result ≤ length room.new }
 {
     let mut done = 0;
+    // A `while`: a read gives any number of bytes, so that no iterator gives the places.
     while done < room.len() {
         match input.read(&mut room[done..]) {
             Ok(n) if n > 0 => done += n,

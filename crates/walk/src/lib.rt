@@ -25,6 +25,7 @@ pub fn walk(w: &[u8], edition: Edition, limit: usize, p: &mut [u8], a: &mut [u8]
         alternate: 0,
         visits: 0,
     };
+    // A `while`, as document 01 has it: the place rises by one plus the bytes passed over.
     while at < w.len() {
         if (limit <= t.primary) & (limit <= t.alternate) {
             break;

@@ -6,7 +6,7 @@ ghost use Rattle.book.specs.Book.{read_book};
 ghost use Rattle.scratch.specs.Scratch.{words_told};
 ghost use Rattle.join.specs.Join.{count_by, join_by, room_by, scratch_by};
 ghost use Rattle.asking.specs.Asked.{choice_of};
-ghost use Rattle.telling_books.specs.Numbers.{joined_numbers};
+ghost use Rattle.telling_books.specs.Numbers.{made_numbers};
 
 use asking::choice_of;
 
@@ -28,11 +28,11 @@ pub extern "C" fn simmerquilt_join_count(
     most: u64,
     out: &mut [u64; 2],
 )
-    ensures told { out.new ≡ joined_numbers (count_by (choice_of alternate) (length scratch.old) most (read_book first.now) (read_book second.now)) }
+    ensures told { out.new ≡ made_numbers (count_by (choice_of alternate) (length scratch.old) most (read_book first.now) (read_book second.now)) }
     ensures scratch { scratch.new ≡ scratch_by scratch.old (read_book first.now) (read_book second.now) }
 {
     let counted = join::count(first, second, choice_of(alternate), scratch, most as usize);
-    telling_books::tell_joined(counted, out);
+    telling_books::tell_made(counted, out);
 }
 
 // Writes the pairs of two books to the front of the room, two stations each; `out` is number and count.
@@ -45,10 +45,10 @@ pub extern "C" fn simmerquilt_join(
     room: &mut [u32],
     out: &mut [u64; 2],
 )
-    ensures told { out.new ≡ joined_numbers (join_by (choice_of alternate) (length scratch.old) (length room.old) (read_book first.now) (read_book second.now)) }
+    ensures told { out.new ≡ made_numbers (join_by (choice_of alternate) (length scratch.old) (length room.old) (read_book first.now) (read_book second.now)) }
     ensures room { room.new ≡ room_by (choice_of alternate) (length scratch.old) room.old (read_book first.now) (read_book second.now) }
     ensures scratch { scratch.new ≡ scratch_by scratch.old (read_book first.now) (read_book second.now) }
 {
     let joined = join::join(first, second, choice_of(alternate), scratch, room);
-    telling_books::tell_joined(joined, out);
+    telling_books::tell_made(joined, out);
 }

@@ -62,6 +62,7 @@ pub fn records_from(s: &[u8], from: usize, format: u32) -> Result<Measure, Fault
 {
     let mut c = Cursor { at: from, floor: 0 };
     let mut all = Measure::default();
+    // A record's end is known only when it is read, and a fault ends the walk.
     while c.at < s.len() {
         let record = entry::record_at(s, c.at, format, c.floor)?;
         let next = record.next;

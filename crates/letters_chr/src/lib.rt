@@ -1,5 +1,5 @@
 // CH as in Greek: the tests that give it K. Each promises its condition.
-#![tactic(auto)]
+#![tactic(auto, unfolding(rules::specs::Cond::holds))]
 
 ghost use Rattle.std.specs.Prelude.{◌≡◌};
 ghost use Rattle.byte.specs.Text.{upper};

@@ -1,5 +1,5 @@
 // The -ger- and -gy- test of G: whether it holds, and which of its texts it tells.
-#![tactic(auto)]
+#![tactic(auto, unfolding(rules::specs::Cond::holds))]
 
 ghost use Rattle.std.specs.Prelude.{◌≡◌};
 ghost use Rattle.byte.specs.Text.{upper};

@@ -1,5 +1,5 @@
 // The rule of J: what it promises is the first of its cases that holds; the function of a compound test promises its condition.
-#![tactic(auto)]
+#![tactic(auto, unfolding(rules::specs::Cond::holds))]
 
 ghost use Rattle.std.specs.Prelude.{◌≡◌};
 ghost use Rattle.byte.specs.Text.{upper};

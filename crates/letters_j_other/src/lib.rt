@@ -1,5 +1,5 @@
 // The rule of J in no Spanish name. The branch's function promises its tree (specs/Trees.antt), a test's its condition.
-#![tactic(auto)]
+#![tactic(auto, unfolding(rules::specs::Cond::holds))]
 
 ghost use Rattle.std.specs.Prelude.{◌≡◌, false};
 ghost use Rattle.std.proofs.Math.Option.{none};

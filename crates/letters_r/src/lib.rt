@@ -1,6 +1,6 @@
 // The rule of R: one function for each branch, and one for each compound test. What the letter's rule promises is the first of its
 // cases that holds; a branch's function promises its tree (specs/Trees.antt), a test's its condition.
-#![tactic(auto)]
+#![tactic(auto, unfolding(rules::specs::Cond::holds))]
 
 ghost use Rattle.std.specs.Prelude.{◌≡◌};
 ghost use Rattle.byte.specs.Text.{upper};

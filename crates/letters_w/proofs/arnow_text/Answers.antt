@@ -1,7 +1,0 @@
--- `letters_w::arnow_text` meets its contract: its numbers are those of the condition.
-use Rattle.rules.specs.Told.{text_of}
-use Rattle.letters_w.proofs.arnow_text.Goals as goal
-
-pub returns : goal.returns
-unfolding text_of
-returns c = cc

@@ -9,7 +9,8 @@ ghost use Rattle.rules.specs.Table.{spoken_at};
 use outcome::{Add, Spoken};
 
 // What the byte at `at` adds to the codes and passes over, and which case says so, by which text; where no byte stands, nothing. `slavo`
-// is the word's mark, and `second` says that the rules are edition 2's.
+// is the word's mark, and `second` says that the rules are edition 2's: two answers of yes or no, as the definition's Mode has them; the
+// rules do not know of terms::Edition.
 pub fn visit_at(w: &[u8], at: usize, slavo: bool, second: bool) -> Spoken
     ensures { result ≡ spoken_at (upper w.now) at (mode slavo second) }
 {

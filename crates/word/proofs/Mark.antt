@@ -100,9 +100,6 @@ scan_has c (b ∷ u) =
 abbrev pub Found : List ℕ → ℕ → ℕ → Bool → Type 0
 Found w i last found = (found || scan (eqb last 99) (drop i (upper w))) ≡ scan false (upper w)
 
-pub scan_start : (w : List ℕ) → Found w 0 0 false
-scan_start w = refl
-
 found_more : (f h r : Bool) → ((f || h) || r) ≡ (f || (h || r))
 found_more true h r = refl
 found_more false h r = refl

@@ -10,7 +10,8 @@ ghost use Rattle.header.specs.Head.{known, formats, read_header_by, opened_by, u
 use fields::Field;
 use terms::{EDITIONS, FORMATS, Fault, Limit};
 
-// The cut is 0 for none, else the limit plus 1.
+// The cut is 0 for none, else the limit plus 1. Format and edition are any numbers: a caller hands a header in again with its end, and one that
+// is not known is answered by `NotKnown`.
 #[derive(Clone, Copy, Debug, PartialEq, Eq)]
 pub struct Header {
     pub format: u32,

@@ -1,4 +1,5 @@
 // One visit: a match on the visited byte, whose promise is the definition's visit.
+// Word and place stay two parameters, for speed: crates/spots.
 #![tactic(auto)]
 
 ghost use Rattle.std.specs.Prelude.{◌≡◌};

@@ -1,4 +1,5 @@
 // CH as in Greek: the tests that give it K. Each promises its condition.
+// Word and place stay two parameters, for speed: crates/spots.
 #![tactic(auto, unfolding(rules::specs::Cond::holds))]
 
 ghost use Rattle.std.specs.Prelude.{◌≡◌};

@@ -1,4 +1,5 @@
 // The -ger- and -gy- test of G: whether it holds, and which of its texts it tells.
+// Word and place stay two parameters, for speed: crates/spots. No two functions are one: each promises its own part of the definition.
 #![tactic(auto, unfolding(rules::specs::Cond::holds))]
 
 ghost use Rattle.std.specs.Prelude.{◌≡◌};

@@ -1,4 +1,5 @@
 // The rule of J: what it promises is the first of its cases that holds; the function of a compound test promises its condition.
+// Word and place stay two parameters, for speed: crates/spots.
 #![tactic(auto, unfolding(rules::specs::Cond::holds))]
 
 ghost use Rattle.std.specs.Prelude.{◌≡◌};

@@ -1,4 +1,5 @@
 // The rule of J in no Spanish name. The branch's function promises its tree (specs/Trees.antt), a test's its condition.
+// Word and place stay two parameters, for speed: crates/spots.
 #![tactic(auto, unfolding(rules::specs::Cond::holds))]
 
 ghost use Rattle.std.specs.Prelude.{◌≡◌, false};

@@ -1,4 +1,5 @@
 // The letters of one sound, and the vowels.
+// Word and place stay two parameters, for speed: crates/spots.
 #![tactic(auto)]
 
 ghost use Rattle.std.specs.Prelude.{◌≡◌, cond, ◌+◌};

@@ -1,5 +1,6 @@
 // The rule of R: one function for each branch, and one for each compound test. What the letter's rule promises is the first of its
 // cases that holds; a branch's function promises its tree (specs/Trees.antt), a test's its condition.
+// Word and place stay two parameters, for speed: crates/spots.
 #![tactic(auto, unfolding(rules::specs::Cond::holds))]
 
 ghost use Rattle.std.specs.Prelude.{◌≡◌};

@@ -1,5 +1,6 @@
 // The rule of S before C: one function for each branch, and one for each compound test. A branch's function promises its tree
 // (specs/Trees.antt), a test's its condition.
+// Word and place stay two parameters, for speed: crates/spots.
 #![tactic(auto, unfolding(rules::specs::Cond::holds))]
 
 ghost use Rattle.std.specs.Prelude.{◌≡◌, true};

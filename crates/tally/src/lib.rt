@@ -16,7 +16,7 @@ pub struct Tally {
 }
 
 // One more where the limit is not reached. A test: with the smaller of two numbers in its place, or in that of `longer`, an encoded word
-// takes 4 to 12 % more instructions.
+// takes 3 to 12 % more instructions.
 fn one_longer(len: usize, limit: usize) -> usize
     ensures { result ≡ len + min (limit - len) 1 }
 {
@@ -36,7 +36,7 @@ fn longer(len: usize, limit: usize, add: Add) -> usize
 
 impl Tally {
     // The tally after a visit: each length takes its addition (the Rust's append_primary and append_alternate), and the visit counts
-    // once. The alternate length comes first, since the walk, which is compiled as one function, takes 4 to 5 % fewer instructions so.
+    // once. The alternate length comes first, since the walk, which is compiled as one function, takes 2 to 6 % fewer instructions so.
     pub fn counted(self, limit: usize, visit: Visit) -> Tally
         requires { self.visits + 1 < 2 ^ 64 }
         ensures { result ≡ counted self limit visit }

@@ -1,4 +1,5 @@
 // One visit with the running tally: it is lent to the rule, as the Rust lends its DoubleMetaphoneResult, and taken back.
+// Word and place stay two parameters, for speed: crates/spots.
 #![tactic(auto, using(rules::proofs::Told::spoken_visit))]
 
 ghost use Rattle.std.specs.Prelude.{◌≡◌, ◌+◌, ◌<◌, ◌^◌};

@@ -1,26 +1,25 @@
 -- Adding, from what the functions' tests show.
 use Prim.Native.Nat.{ℕ}
-use mathlib.Core.Path.{◌≡◌, sym, ap}
+use mathlib.Core.Path.{◌≡◌, sym}
 use mathlib.Core.List.{List}
-use Rattle.std.specs.Prelude.{Option, Some, None, Ok, Err}
+use Rattle.std.specs.Prelude.{Option, Ok}
 use Rattle.terms.specs.declared.Fault.{Fault}
 use Rattle.number.specs.Septets.{Bytes}
 use Rattle.fields.specs.Field.{first}
 use Rattle.header.specs.declared.Header.{Header}
 use Rattle.header.specs.Head.{formats}
-use Rattle.entry.specs.Entry.{Record, entry_bytes}
+use Rattle.entry.specs.Entry.{entry_bytes}
 use Rattle.book.specs.declared.Whole.{Whole}
 use Rattle.book.specs.Told.{whole_by}
 use Rattle.book.specs.Room.{read_in}
-use Rattle.book.proofs.Opening.{whole_fault}
 use Rattle.book.proofs.Room.{inside}
 use Rattle.putting.specs.declared.NewRecord.{NewRecord}
 use Rattle.putting.specs.Laid.{Made}
 use Rattle.putting.specs.New.{new_entry}
 use Rattle.placing.specs.Placing.{station_fault}
-use Rattle.keying.specs.Keyed.{keyed, new_bytes, name_fault, new_fault, Keys}
+use Rattle.keying.specs.Keyed.{keyed, new_bytes, new_fault, Keys}
 use Rattle.fitting.specs.Base.{CodedAdded, Stands}
-use Rattle.fitting.proofs.Base.{added_never, added_same, added_unread}
+use Rattle.fitting.proofs.Base.{added_same}
 use Rattle.adding.specs.Adding.{Added}
 
 module _ (room : List ℕ) (len station : ℕ) (name : List ℕ) where

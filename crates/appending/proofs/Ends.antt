@@ -1,18 +1,15 @@
 -- The end of a book, and going on from it, from what the functions' tests show.
-use Prim.Native.Nat.{ℕ, ◌+◌, ◌^◌, ◌≤◌, ◌<◌}
-use mathlib.Core.Path.{◌≡◌, refl, sym, ap, ◌∙◌, subst}
-use mathlib.Core.Bool.{Bool, true, false, cond}
+use Prim.Native.Nat.{ℕ, ◌+◌, ◌^◌, ◌<◌}
+use mathlib.Core.Path.{◌≡◌, sym, ap, ◌∙◌, subst}
 use mathlib.Core.List.{List}
-use borrow.Author.Tests.{le-ltb, ltb-false}
-use lib.Dec.{ltb, leb}
+use borrow.Author.Tests.{le-ltb}
+use lib.Dec.{leb}
 use lib.ListN.{length, take}
-use Rattle.std.specs.Prelude.{Option, Some, None, Ok, Err}
+use Rattle.std.specs.Prelude.{Option, None, Ok}
 use Rattle.terms.specs.declared.Fault.{Fault}
-use Rattle.terms.specs.declared.Fault.TheVariants.{BookEnds}
 use Rattle.fields.specs.Got.{good}
 use Rattle.fields.specs.Field.{first}
-use Rattle.header.specs.declared.Header.{Header}
-use Rattle.header.specs.Head.{formats, unknown}
+use Rattle.header.specs.Head.{formats}
 use Rattle.entry.specs.Entry.{Record, entry_bytes}
 use Rattle.book.specs.Book.{Book}
 use Rattle.book.specs.Room.{read_in}
@@ -22,10 +19,9 @@ use Rattle.book.proofs.Room.{Lies, lies}
 use Rattle.putting.specs.declared.NewRecord.{NewRecord}
 use Rattle.putting.specs.Laid.{placed, left, Placed, Made}
 use Rattle.putting.specs.New.{new_entry}
-use Rattle.putting.proofs.Laid.{placed_fault}
 use Rattle.placing.specs.Placing.{station_fault, floor_where}
-use Rattle.keying.specs.Keyed.{keyed, new_bytes, name_fault, new_fault, Keys}
-use Rattle.keying.proofs.Keyed.{never, was_laid, sound}
+use Rattle.keying.specs.Keyed.{keyed, new_bytes, new_fault, Keys}
+use Rattle.keying.proofs.Keyed.{was_laid, sound}
 use Rattle.appending.specs.Ended.{Ended, end_of, end_fault, floor_at, placed_at, behind, Appended}
 
 -- ---- going on

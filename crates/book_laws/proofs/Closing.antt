@@ -21,7 +21,7 @@ use Rattle.terms.specs.Editions.{last_format}
 use Rattle.entry.proofs.Entry.{spelt, FineEntry}
 use Rattle.book.proofs.Book.{FineEntries, reads_back, OneBook, one_book}
 use Rattle.header.proofs.Head.{FineHeader, known_good}
-use Rattle.std.specs.Prelude.{Option, Some, None, Ok, Err}
+use Rattle.std.specs.Prelude.{Option, Ok, Err}
 use Rattle.terms.specs.declared.Fault.{Fault}
 use Rattle.terms.specs.declared.Fault.TheVariants.{NoLive}
 use Rattle.putting.specs.Laid.{Made}

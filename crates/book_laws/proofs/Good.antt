@@ -10,7 +10,7 @@ use lib.ListN.{length}
 use Rattle.number.specs.Septets.{Bytes}
 use Rattle.terms.specs.Limits.{word_limit}
 use Rattle.ascii.specs.High.{first_high}
-use Rattle.std.specs.Prelude.{Option, Some, None}
+use Rattle.std.specs.Prelude.{Some, None}
 use Rattle.terms.specs.declared.Fault.TheVariants.{TooLong, NotAscii, NotKnown, NotAbove}
 use Rattle.fields.specs.Got.{good}
 use Rattle.fields.specs.Field.{first, fault_in}

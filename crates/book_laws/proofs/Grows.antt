@@ -23,7 +23,7 @@ use Rattle.header.specs.Head.{header_bytes, formats, limit_of}
 use Rattle.header.proofs.Head.{FineHeader}
 use Rattle.entry.proofs.Entry.{FineRecord, FineKind, unspelt, spelt, FineEntry}
 use Rattle.book.proofs.Book.{FineEntries, reads_back, OneBook, one_book}
-use Rattle.std.specs.Prelude.{Option, Some, None, Ok, Err}
+use Rattle.std.specs.Prelude.{Option, Some, None, Ok}
 use Rattle.terms.specs.declared.Fault.{Fault}
 use Rattle.terms.specs.declared.Fault.TheVariants.{BadNumber}
 use Rattle.starting.specs.New.{cut_fault, new_header}

@@ -1,6 +1,6 @@
 -- The codes of a name under a header, and the answer where it has none.
 use Prim.Native.Nat.{ℕ, ◌-◌, ◌*◌, ◌≤◌}
-use mathlib.Core.Path.{◌≡◌, sym, ap, ◌∙◌, ap₂, subst}
+use mathlib.Core.Path.{◌≡◌, ap, ◌∙◌, ap₂}
 use mathlib.Core.List.{List}
 use native.Mathlib.Omega.{arith}
 use borrow.Author.Tests.{lt-ltb, le-ltb}
@@ -27,7 +27,6 @@ use Rattle.demands.proofs.Room.{need_at_most, never_three, never_four}
 use Rattle.demands.proofs.Part.{part_is}
 use Rattle.header.specs.declared.Header.{Header}
 use Rattle.header.specs.Head.{limit_of}
-use Rattle.entry.specs.Entry.{Record}
 use Rattle.putting.specs.declared.NewRecord.{NewRecord}
 use Rattle.putting.specs.New.{record_with}
 use Rattle.keying.specs.Keyed.{name_fault, code_under, keyed, Keys}

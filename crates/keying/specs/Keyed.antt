@@ -13,7 +13,7 @@ use Rattle.header.specs.declared.Header.{Header}
 use Rattle.entry.specs.Entry.{Record, Entry, entry_bytes}
 use Rattle.header.specs.Head.{limit_of}
 use Rattle.putting.specs.declared.NewRecord.{NewRecord}
-use Rattle.putting.specs.New.{record_with, entry_with, new_record, Short}
+use Rattle.putting.specs.New.{record_with, new_record, Short}
 use Rattle.placing.specs.Placing.{station_fault}
 
 -- ---- a new record: its name is encoded under the header's edition and cut

@@ -17,6 +17,7 @@ pub fn close_up(room: &mut [u8], len: usize, format: u32, from: usize) -> usize
 {
     let mut cursor = Cursor { at: from, floor: 0 };
     let mut to = from;
+    // A while: the room is written between two readings, so no iterator can hold it.
     while cursor.at < len {
         let Ok(record) = entry::record_at(&room[..len], cursor.at, format, cursor.floor) else {
             return to;

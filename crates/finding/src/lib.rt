@@ -27,6 +27,7 @@ pub fn find_live(s: &[u8], from: usize, format: u32, station: u64) -> Place
     ensures { Sought s.now format station from result }
 {
     let mut cursor = Cursor { at: from, floor: 0 };
+    // A while: the next place is known only from the record that was read.
     while cursor.at < s.len() {
         let record = entry::record_at(s, cursor.at, format, cursor.floor)?;
         if is_meant(record.kind, record.station, station) {

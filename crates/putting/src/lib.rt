@@ -8,6 +8,7 @@ ghost use Rattle.header.specs.Head.{header_bytes};
 ghost use Rattle.entry.specs.Entry.{record_bytes, entry_bytes};
 ghost use Rattle.putting.specs.New.{new_record, new_entry, Writable, Short};
 
+use entry::Kind;
 use header::Header;
 use number::LARGEST;
 use terms::Fault;
@@ -74,7 +75,7 @@ impl<'a> NewRecord<'a> {
         if format == 1 {
             return self.put_record(out, at);
         }
-        let body = fields::put_number(out, at, 1);
+        let body = fields::put_number(out, at, u32::from(Kind::Live));
         self.put_record(out, body)
     }
 }

@@ -1,4 +1,5 @@
 -- `putting::NewRecord::put_entry` meets its contract.
+use Prim.Native.Nat.{ℕ}
 use mathlib.Core.Path.{ap}
 use native.Mathlib.Omega.{arith}
 use lib.ListN.{length, length-append}
@@ -18,13 +19,13 @@ returns-then-format-eq1 c = put_as (entry_bare c.args.format c.args.self c.if-fo
 pub put_number-body-requires : goal.put_number-body-requires
 put_number-body-requires c =
     let v = c.args.self in
-    (omega arith, omega (arith, c.requires.1, ap length (entry_kind c.args.format v c.if-format-eq1.false), length-append (number 1) (record_bytes (new_record v))))
+    (omega (arith, c.from.ensures), omega (arith, c.requires.1, ap (λ (n : ℕ). length (number n)) c.from.ensures, ap length (entry_kind c.args.format v c.if-format-eq1.false), length-append (number 1) (record_bytes (new_record v))))
 
 pub put_record-requires-2 : goal.put_record-requires-2
 put_record-requires-2 c =
     let v = c.args.self in
-    let p = c.put_number-body.ensures in
+    let p = rw c.from.ensures at c.put_number-body.ensures in
     (c.requires.0, omega (arith, c.requires.1, p.next, put_length p, ap length (entry_kind c.args.format v c.if-format-eq1.false), length-append (number 1) (record_bytes (new_record v))))
 
 pub returns : goal.returns
-returns c = put_as (entry_kind c.args.format c.args.self c.if-format-eq1.false) (put_then c.put_number-body.ensures c.put_record-2.ensures)
+returns c = put_as (entry_kind c.args.format c.args.self c.if-format-eq1.false) (put_then (rw c.from.ensures at c.put_number-body.ensures) c.put_record-2.ensures)

@@ -15,7 +15,11 @@ fn check_end(end: End, room: usize) -> Result<(), Fault>
     if let Some(fault) = header::unknown_fault(end.header.format, end.header.edition) {
         return Err(fault);
     }
-    if room < end.len { Err(Fault::BookEnds) } else { Ok(()) }
+    if room < end.len {
+        Err(Fault::BookEnds)
+    } else {
+        Ok(())
+    }
 }
 
 // Adds a record behind a known good end, and gives the new end. The book before it is not read again. Under `NoRoom` it may still fit: `add`

@@ -25,7 +25,19 @@ pub fn new_record<'a>(
     Ok(NewRecord {
         station,
         name,
-        primary: chosen(Choice::Primary, primary, coded.primary, alternate, coded.alternate),
-        alternate: chosen(Choice::Alternate, primary, coded.primary, alternate, coded.alternate),
+        primary: chosen(
+            Choice::Primary,
+            primary,
+            coded.primary,
+            alternate,
+            coded.alternate,
+        ),
+        alternate: chosen(
+            Choice::Alternate,
+            primary,
+            coded.primary,
+            alternate,
+            coded.alternate,
+        ),
     })
 }

@@ -7,7 +7,7 @@
 --     Grows      `start_reads`, `add_reads`: what starting and adding leave reads back
 --     Going      `append_adds`, `append_goes_on`, `book_end`: going on from a known end is adding, but for a 9
 --     Closing    `close_one`, `close_when`, `closed_again`: a close changes one byte; when it is refused
---     Kinds      `kind_stored`: the kind that is told of a record is, by its number, the one that it stores
+--     Stored     `kind_stored`: the kind that is told of a record is, by its number, the one that it stores
 --     Examples   the rules of L7, each on one small book
 pub mod Good
 pub mod Rising
@@ -17,5 +17,5 @@ pub mod Live
 pub mod Grows
 pub mod Going
 pub mod Closing
-pub mod Kinds
+pub mod Stored
 pub mod Examples

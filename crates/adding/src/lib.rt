@@ -1,5 +1,6 @@
 // A record added to a station key book in lent room, which is read first, and closed up where it must be: the faults are the reader's, then those
 // of a new record, and `NoRoom` where the room is too short for it even when the book is closed up. A refusal changes nothing.
+// `len` stands beside `room`: a host lends the room, and says how much of it is a book.
 #![tactic(auto)]
 
 ghost use Rattle.adding.specs.Adding.{Added};

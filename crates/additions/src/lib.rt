@@ -1,4 +1,5 @@
 // An addition written to a code, clipped to the limit.
+// `len` stands beside `buf`: the code's buffer is lent, and there is no heap.
 #![tactic(auto)]
 
 ghost use Rattle.std.specs.Prelude.{◌≡◌, [], ◌∷◌, ◌+◌, ◌-◌, ◌≤◌, length, take};

@@ -1,4 +1,4 @@
-// A host's numbers as a limit and a choice.
+// A host's numbers as a limit and a choice: a flag and a number, and a flag, since C has neither an Option nor an enum of ours.
 #![tactic(auto)]
 
 ghost use Rattle.std.specs.Prelude.{◌≡◌};

@@ -91,7 +91,8 @@ pub fn read(s: &[u8], least: u32) -> Reading
     })
 }
 
-// Reads the book in the first `len` bytes of the room, of a format from `least` on. A stated length beyond the room is a short book.
+// Reads the book in the first `len` bytes of the room, of a format from `least` on. `len` stands beside it, since a host lends both;
+// a stated length beyond the room is a short book.
 pub fn read_in(room: &[u8], len: usize, least: u32) -> Reading
     ensures { result ≡ whole_by (read_in_by (formats least) room.now len) }
 {

@@ -1,5 +1,6 @@
 // A station closed: its live record is found, and the record's kind becomes 0. The faults are the reader's, and `NoLive` where the station has no
 // live record. A refusal changes nothing.
+// `len` stands beside `room`: a host lends the room, and says how much of it is a book.
 #![tactic(auto)]
 
 ghost use Rattle.closing.specs.Closed.{Closed};

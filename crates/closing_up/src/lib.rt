@@ -1,4 +1,5 @@
 // Closed records give their room back: a book is closed up in the lent room itself.
+// `len` stands beside `room`: a host lends the room, and says how much of it is a book.
 #![tactic(auto)]
 
 ghost use Rattle.std.specs.Prelude.{◌≤◌, length};

@@ -59,6 +59,7 @@ impl Encoder {
         }
         let cap = needs::cap_of(self.limit, inner.len());
         let tally = walk::walk(inner, self.edition, cap, primary, alternate);
+        // The tally's three numbers are the answer's; neither type knows of the other, so that what only looks at an answer rests on no walk.
         Ok(Coded {
             primary: tally.primary,
             alternate: tally.alternate,

@@ -1,5 +1,6 @@
 // One record of a station key book, read at any place: its kind, its station, its name and its codes. Its faults: a name that the encoder
 // refuses, a number in a bad form, the book ends inside something, unknown kind, station not above the one before.
+// A place stands beside the book, and the floor beside it: a record is read at any place, behind its kind too.
 #![tactic(auto)]
 
 ghost use Rattle.std.specs.Prelude.{◌≡◌, drop};

@@ -1,4 +1,5 @@
 // The fields of a book, a number and a text behind its length: read at any place, and put where there is room.
+// A place stands beside the bytes and the room, here and in what puts and reads: there is no heap, and both are parts of what is lent.
 #![tactic(auto)]
 
 ghost use Rattle.std.specs.Prelude.{◌≡◌, ◌+◌, ◌^◌, ◌≤◌, ◌<◌, length, drop};

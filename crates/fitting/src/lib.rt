@@ -1,5 +1,6 @@
 // A record whose codes are made, fitted into a station key book that was read, in lent room: behind its end, or, where it does not fit there,
 // behind the book closed up. A refusal changes nothing.
+// `len` stands beside `room`: a host lends the room, and says how much of it is a book.
 #![tactic(auto)]
 
 ghost use Rattle.putting.specs.New.{Short};

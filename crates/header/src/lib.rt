@@ -33,7 +33,7 @@ pub struct Opened {
     pub first: Cursor,
 }
 
-// The fault of a format or an edition that is not one of those from `least` to `most`.
+// The fault of a format or an edition that is not one of those from `least` to `most`. An Option, as the definition's judges answer.
 fn known_fault(value: u32, least: u32, most: u32) -> Option<Fault>
     ensures { result ≡ known least most value }
 {

@@ -27,6 +27,7 @@ impl fmt::Display for Failure {
 
 // Feeds a block, and writes what that gives each time that `out` is full and at the block's end, so that no line waits for the next read.
 // Answers how many bytes are held of the line that is not ended. How much of the block a feed takes is known only behind it.
+// `word` and `held` are as in crates/lines.
 fn drain(
     output: Stdout,
     block: &[u8],
@@ -82,7 +83,8 @@ fn answer_all(input: Stdin, output: Stdout) -> Result<(), Failure> {
         .map_err(|_| Failure::CannotWrite)
 }
 
-// A line that is lost is not lost in silence. The status stays 0, as it was; ./keys makes 1 of what is said.
+// A line that is lost is not lost in silence. The status stays 0, as it was; ./keys makes 1 of what is said. stations has the same
+// frame and failures of its own: a crate for two lines is no plainer.
 fn main(rt: HostRuntime) {
     if let Err(failure) = answer_all(rt.stdin(), rt.stdout()) {
         let _ = eprintln!(rt; "keys: {failure}");

@@ -18,6 +18,7 @@ pub fn visit_at(w: &[u8], at: usize, slavo: bool, second: bool) -> Spoken
     if w.len() <= at {
         return Spoken::both(1, 0, Add::Nothing, 0);
     }
+    // one match on the visited byte: document 01's form
     match w[at] {
         b'A' | b'a' | b'E' | b'e' | b'I' | b'i' | b'O' | b'o' | b'U' | b'u' | b'Y' | b'y' =>
             letters_plain::handle_vowel(w, at),

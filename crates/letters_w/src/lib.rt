@@ -1,6 +1,6 @@
 // The rule of W: one function for each branch, and one for each compound test. What the letter's rule promises is the first of its
 // cases that holds; a branch's function promises its tree (specs/Trees.antt), a test's its condition.
-// Word and place stay two parameters, for speed: crates/spots.
+// Word and place stay two parameters, for speed: crates/spots. No two functions are one: each promises its own part of the definition.
 #![tactic(auto, unfolding(rules::specs::Cond::holds, rules::specs::Told::text_of))]
 
 ghost use Rattle.std.specs.Prelude.{◌≡◌};

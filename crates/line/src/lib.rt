@@ -14,7 +14,8 @@ pub const LINE_ROOM: usize = 2 * Encoder::DEFAULT_LIMIT + 2;
 // the alternate code where it stays; the primary code, whose length is known only after it, is put before the tab.
 const TAB: usize = Encoder::DEFAULT_LIMIT;
 
-// The line of a refusal, by its number and no enum: any number up to 4 is taken.
+// The line of a refusal, by its number and no enum: any number up to 4 is taken. The line is a slice and no array, here and
+// below: what the two ask of callers may not grow (README).
 pub fn refuse(line: &mut [u8], number: u8) -> Range<usize>
     requires { (length line.old ≡ line_room) × (number ≤ 4) }
     ensures { Lies (33 ∷ (48 + number) ∷ 10 ∷ []) result line.new }

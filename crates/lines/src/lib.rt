@@ -1,6 +1,6 @@
 // The line reader's work, on slices: the program above it only reads and writes.
 // The bytes of the line that is not ended lie in `word`, `held` of them. They stay two parameters: `word` is lent, `held` goes by value, and what
-// `feed` and `finish` leave no choice of (proofs/NoChoice.antt) is said of both.
+// `feed` and `finish` leave no choice of (proofs/NoChoice.antt) is said of both. So do `out` and `wrote`: the room is lent.
 #![tactic(auto)]
 
 ghost use Rattle.std.specs.Prelude.{◌≡◌, List, ℕ, ◌+◌, ◌≤◌, length};

@@ -79,7 +79,7 @@ fn list(t: &[u8], second: bool, visits: usize, rows: &mut [u32]) -> Told
 }
 
 // Writes the rows of a word's visits under an edition and a limit to the front of the room. CODE_ROOM is enough, so no buffer is found
-// too short.
+// too short. The edition is any number: one that is not known is answered.
 pub fn explain(edition: u64, limit: Limit, word: &[u8], rows: &mut [u32]) -> Told
     ensures { Explained edition limit word.now rows.old result rows.new }
 {

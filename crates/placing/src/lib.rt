@@ -1,4 +1,5 @@
 // A record whose codes are made, put behind the end of a station key book in lent room. A refusal changes nothing.
+// `len` stands beside `room`: a host lends the room, and says how much of it is a book.
 #![tactic(auto)]
 
 ghost use Rattle.std.specs.Prelude.{◌≡◌, ◌≤◌, ◌+◌, leb, length};
@@ -26,7 +27,7 @@ pub fn station_from(floor: u32, station: u64) -> Result<u32, Fault>
 }
 
 // The least station of a record behind an end. Where the record does not fit there, closed ones of a format 2 book may give room back: its
-// station is then for `add` to judge.
+// station is then for `add` to judge. `fits` is a test made once, by the caller, which asks it again for the room.
 fn floor_where(fits: bool, format: u32, floor: u32) -> u32
     ensures { result ≡ floor_where fits format floor }
 {

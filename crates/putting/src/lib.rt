@@ -16,7 +16,8 @@ use terms::Fault;
 // The length of the book that was made.
 pub type Made = Result<usize, Fault>;
 
-// A record that is to be added: its station, its name and its codes.
+// A record that is to be added: its station, its name and its codes. No invariant: `put_entry` takes texts that `entry_size` does not, and may ask
+// no more than it did.
 #[derive(Clone, Copy)]
 pub struct NewRecord<'a> {
     pub station: u64,

@@ -1,4 +1,4 @@
-// Room for a program's whole input, and its filling.
+// Room for what a program reads and writes, and its filling.
 #![tactic(auto)]
 
 ghost use Rattle.std.specs.Prelude.{◌≡◌, ◌≤◌, ℕ, length, get_or};

@@ -130,6 +130,7 @@ fn print_input(mut input: Stdin, output: Stdout) -> Result<(), Failure> {
 }
 
 // The first call that fails ends the print, and a line on standard error tells of it. The status stays 0, as it was; ./stations makes 1 of it.
+// keys has the same frame and failures of its own: a crate for two lines is no plainer.
 fn main(rt: HostRuntime) {
     if let Err(failure) = print_input(rt.stdin(), rt.stdout()) {
         let _ = eprintln!(rt; "stations: {failure}");

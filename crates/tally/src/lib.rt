@@ -35,6 +35,7 @@ fn longer(len: usize, limit: usize, add: Add) -> usize
 }
 
 impl Tally {
+    // The clause on the visits stands in three contracts: README names the functions, and a type in its place would ask more.
     // The tally after a visit: each length takes its addition (the Rust's append_primary and append_alternate), and the visit counts
     // once. The alternate length comes first, since the walk, which is compiled as one function, takes 2 to 6 % fewer instructions so.
     pub fn counted(self, limit: usize, visit: Visit) -> Tally

@@ -71,7 +71,7 @@ impl Edition {
     }
 }
 
-// The edition of a known number.
+// The edition of a known number. It answers any number, as it always did; where one may be unknown, TryFrom refuses it.
 pub fn edition_of(number: u64) -> Edition
     ensures { result ≡ edition_of number }
 {

@@ -1,6 +1,7 @@
 // A window seen from a place in a word: ahead of it, behind it, at the front and at the end of the word. Every test is total: a window below
 // 0 or past the end is no match.
 // Word and place stay two parameters, for speed: crates/spots.
+// `ahead`, `behind` and `front` are a line each over the test that tells the text: each promises its own spot.
 #![tactic(auto)]
 
 ghost use Rattle.std.specs.Prelude.{◌≡◌, ℕ, ◌+◌};

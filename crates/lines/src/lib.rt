@@ -4,7 +4,6 @@
 #![tactic(auto)]
 
 ghost use Rattle.std.specs.Prelude.{◌≡◌, List, ℕ, ◌+◌, ◌≤◌, length};
-ghost use Rattle.terms.specs.Limits.{word_limit};
 ghost use Rattle.line.specs.Line.{line_of, line_room, Lies};
 ghost use Rattle.lines.specs.Feed.{hand, keep, Holds, Fed, Finished};
 ghost use Rattle.lines.specs.Inside.{Answered, Stepped};
@@ -30,8 +29,8 @@ pub struct Progress {
 }
 
 // The line of the held bytes.
-fn held_line(word: &[u8], held: usize, line: &mut [u8]) -> Range<usize>
-    requires { (word_limit ≤ length word.now) × (length line.old ≡ line_room) }
+fn held_line(word: &[u8; WORD_LIMIT], held: usize, line: &mut [u8]) -> Range<usize>
+    requires { length line.old ≡ line_room }
     ensures { (p : List ℕ) → Holds p (hand held word.now) → Lies (line_of p) result line.new }
 {
     if WORD_LIMIT < held {
@@ -41,8 +40,8 @@ fn held_line(word: &[u8], held: usize, line: &mut [u8]) -> Range<usize>
 }
 
 // Stores it in `out` from `wrote` on, and answers its length.
-fn answer(word: &[u8], held: usize, out: &mut [u8], wrote: usize) -> usize
-    requires { (word_limit ≤ length word.now) × (wrote + line_room ≤ length out.old) }
+fn answer(word: &[u8; WORD_LIMIT], held: usize, out: &mut [u8], wrote: usize) -> usize
+    requires { wrote + line_room ≤ length out.old }
     ensures { Answered (hand held word.now) out.old wrote result out.new }
 {
     let mut line = [0u8; LINE_ROOM];
@@ -54,8 +53,7 @@ fn answer(word: &[u8], held: usize, out: &mut [u8], wrote: usize) -> usize
 }
 
 // One byte more of the line. What is over WORD_LIMIT is read and not kept.
-fn hold(word: &mut [u8], held: usize, b: u8) -> usize
-    requires { word_limit ≤ length word.old }
+fn hold(word: &mut [u8; WORD_LIMIT], held: usize, b: u8) -> usize
     ensures { hand result word.new ≡ keep b (hand held word.old) }
 {
     if held < WORD_LIMIT {
@@ -66,8 +64,8 @@ fn hold(word: &mut [u8], held: usize, b: u8) -> usize
 }
 
 // One byte of input: byte 10 ends the line, and any other is held.
-fn step(b: u8, word: &mut [u8], held: usize, out: &mut [u8], wrote: usize) -> Counts
-    requires { (word_limit ≤ length word.old) × (wrote + line_room ≤ length out.old) }
+fn step(b: u8, word: &mut [u8; WORD_LIMIT], held: usize, out: &mut [u8], wrote: usize) -> Counts
+    requires { wrote + line_room ≤ length out.old }
     ensures { Stepped b (hand held word.old) out.old wrote result word.new out.new }
 {
     if b == 10 {

@@ -5,7 +5,7 @@ use native.Mathlib.Omega.{arith}
 use Rattle.std.proofs.Common.{ℕ, ◌≡◌, ◌<◌, length, subst}
 use lib.ListN.{take, get_or}
 use Rattle.lines.specs.Feed.{Hand, hand, next, after, Fed}
-use Rattle.lines.proofs.Hand.{holds_at, after_one}
+use Rattle.lines.proofs.Hand.{holds_at, after_long, after_one}
 use Rattle.lines.proofs.Read.{read_none, read_on}
 use Rattle.lines.proofs.feed.Goals as goal
 
@@ -32,6 +32,7 @@ loop-used-preserved c =
     let a = c.args in
     let s = c.step-s in
     let inside : at.used < length a.block.now = omega arith in
+    let long : length at.word ≡ length a.word.now = ap (λ (h : Hand). length h.bytes) i.held_is ∙ after_long (take at.used a.block.now) (hand a.held a.word.now) in
     record {
       passed = omega arith;
       fits = omega (arith, s.ensures.short, i.out_long);
@@ -39,7 +40,7 @@ loop-used-preserved c =
       held_is = s.ensures.held ∙ ap (λ (h : Hand). next (get_or a.block.now at.used 0) h) i.held_is ∙ sym (after_one a.block.now at.used inside _);
       read = λ p x.
           read_on p a.block.now a.out.now at.used inside (hand at.count at.word) at.wrote s.result _ at.out _ (omega (arith, i.out_long))
-          (i.read p x) (holds_at p (take at.used a.block.now) (hand a.held a.word.now) (hand at.count at.word) i.held_is (omega arith) x) s.ensures;
+          (i.read p x) (holds_at p (take at.used a.block.now) (hand a.held a.word.now) (hand at.count at.word) i.held_is (omega (arith, long)) x) s.ensures;
     }
 
 pub returns : goal.returns

@@ -6,6 +6,16 @@ use denote.Triple.Clauses.{AtExit}
 use Rattle.basics.proofs.Choice.{OneResult}
 use Rattle.answers.proofs.Refusal.place.Kinds as place-kinds
 use Rattle.answers.proofs.Refusal.place.Reads as place
+use Rattle.answers.proofs.U8FromRefusal.from.Kinds as number-kinds
+use Rattle.answers.proofs.U8FromRefusal.from.Reads as number
+use Rattle.answers.proofs.FaultFromRefusal.from.Kinds as fault-kinds
+use Rattle.answers.proofs.FaultFromRefusal.from.Reads as fault
+use Rattle.answers.proofs.CallRefusalFromUnknownEdition.from.Kinds as unknown-kinds
+use Rattle.answers.proofs.CallRefusalFromUnknownEdition.from.Reads as unknown
+use Rattle.answers.proofs.CallRefusalFromRefusal.from.Kinds as refused-kinds
+use Rattle.answers.proofs.CallRefusalFromRefusal.from.Reads as refused
+use Rattle.answers.proofs.U8FromWord.from.Kinds as word-kinds
+use Rattle.answers.proofs.U8FromWord.from.Reads as word
 use Rattle.answers.proofs.tell_answer.Kinds as answer-kinds
 use Rattle.answers.proofs.tell_answer.Reads as answer
 use Rattle.answers.proofs.tell_reply.Kinds as reply-kinds
@@ -28,3 +38,19 @@ module _ (κs : Lfts 1) (a : Dens κs verdict-kinds.ps) (x y : (res_t verdict-ki
 
 pub one_place : OneResult place-kinds.ps place-kinds.r place.Post
 one_place κs a x y s t p q = p ∙ sym q
+
+-- the conversions
+pub one_number : OneResult number-kinds.ps number-kinds.r number.Post
+one_number κs a x y s t p q = p ∙ sym q
+
+pub one_fault : OneResult fault-kinds.ps fault-kinds.r fault.Post
+one_fault κs a x y s t p q = p ∙ sym q
+
+pub one_unknown : OneResult unknown-kinds.ps unknown-kinds.r unknown.Post
+one_unknown κs a x y s t p q = p ∙ sym q
+
+pub one_refused : OneResult refused-kinds.ps refused-kinds.r refused.Post
+one_refused κs a x y s t p q = p ∙ sym q
+
+pub one_word : OneResult word-kinds.ps word-kinds.r word.Post
+one_word κs a x y s t p q = p ∙ sym q

@@ -96,7 +96,7 @@ pub fn read(s: &[u8], least: u32) -> Reading
 pub fn read_in(room: &[u8], len: usize, least: u32) -> Reading
     ensures { result ≡ whole_by (read_in_by (formats least) room.now len) }
 {
-    let there = len.min(room.len());
+    let there = slices::least(len, room.len());
     let whole = read(&room[..there], least)?;
     if room.len() < len {
         return Err(Fault::BookEnds);

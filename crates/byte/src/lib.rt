@@ -6,6 +6,7 @@ ghost use Rattle.byte.specs.Text.{up};
 ghost use Rattle.byte.specs.Vowel.{vowel};
 
 // The byte, a small letter as its capital.
+#[tactic(auto, unfolding(crate::specs::Text::up))]
 pub fn capital(b: u8) -> u8
     ensures { result ≡ up b }
 {

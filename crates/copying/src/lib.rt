@@ -1,15 +1,17 @@
 // Bytes copied: those of one slice into another, and a part of one down to its front.
-#![tactic(auto, using(crate::proofs::Copies::put_sets, crate::proofs::Copies::within_sets))]
+#![tactic(auto, using(crate::proofs::Copies::within_sets))]
 
 ghost use Rattle.std.specs.Prelude.{◌≡◌, ◌+◌, ◌≤◌, length, take, drop};
 ghost use Rattle.std.proofs.lemmas.List.Edits.{sets};
 
-// Copies `src` to `at`.
+// Copies `src` to `at`, byte by byte: the library's copy would have an archive for C need memmove from outside.
 pub fn copy_to(out: &mut [u8], at: usize, src: &[u8])
     requires { at + length src.now ≤ length out.old }
     ensures { out.new ≡ sets out.old at src.now }
 {
-    out[at..at + src.len()].copy_from_slice(src);
+    for (i, b) in src.iter().enumerate() {
+        out[at + i] = *b;
+    }
 }
 
 // Copies `n` bytes from `at` down to `to`; the two may overlap.

@@ -13,6 +13,7 @@ use encoder::Encoder;
 use terms::{CODE_ROOM, Limit};
 
 // The chosen code of a word, in lent room, or the word's refusal. CODE_ROOM is enough, so no buffer is found too short.
+#[tactic(auto, using(crate::proofs::Asked::refuses))]
 fn code_in<'a>(
     limit: Limit,
     choice: Choice,

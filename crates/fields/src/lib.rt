@@ -18,6 +18,7 @@ pub struct Field<T> {
 }
 
 // The number at a place.
+#[tactic(auto, using(crate::proofs::Told::found_fault))]
 pub fn number_at(s: &[u8], at: usize) -> Result<Field<u32>, Fault>
     ensures { result ≡ value_at at (read_number any (drop at s.now)) }
 {

@@ -9,7 +9,7 @@ use borrow.Rule.Slice.PartMut.{mid_of, put_mid}
 use lib.ListN.{length, take, drop, set, get_or, length-append, length-drop, length-set, length-take, drop_of_length-le}
 use lib.Seq.{sets, sets-eq, length-sets, take_all, take-suc-set, take-add, drop-set-lt, set_at, take_at, drop_at, drop-cons}
 use Rattle.encoder.specs.Encode.{filled}
-use Rattle.std.specs.declared.ops.Range.{Range}
+use Rattle.line.specs.declared.Span.{Span}
 use Rattle.line.specs.Line.{line_room, Lies}
 
 -- bytes stored from the front fill it
@@ -17,7 +17,7 @@ pub sets_filled : (s c : List ℕ) → length c ≤ length s → sets s 0 c ≡ 
 sets_filled s c h = sets-eq c s 0 (rw zero-add h) ∙ ap (λ (k : ℕ). c ++ drop k s) (zero-add (length c))
 
 -- a line lies where an equal one does
-pub lies_in : {l l' : List ℕ} {s : Range ℕ} {buf buf' : List ℕ} → l ≡ l' → buf ≡ buf' → Lies l' s buf' → Lies l s buf
+pub lies_in : {l l' : List ℕ} {s : Span} {buf buf' : List ℕ} → l ≡ l' → buf ≡ buf' → Lies l' s buf' → Lies l s buf
 lies_in {l} {l'} {s} {buf} {buf'} e f x = subst (λ (k : List ℕ). Lies k s buf) (sym e) (subst (λ (b : List ℕ). Lies l' s b) (sym f) x)
 
 -- a byte at p, and the rest behind it lent on: what is lent, and what comes back

@@ -1,7 +1,7 @@
 -- The line of a word: what is written for it, and where it lies in a buffer.
 use Rattle.std.specs.Prelude.{ℕ, suc, ◌+◌, ◌≤◌, ◌-◌, zero, ◌≡◌, List, [], ◌∷◌, ◌++◌, length, take, drop}
 use Rattle.encoder.specs.Encode.{default_limit, number_of, answer_of, primary_of, alternate_of}
-use Rattle.std.specs.declared.ops.Range.{Range}
+use Rattle.line.specs.declared.Span.{Span}
 use Rattle.terms.specs.declared.Edition.TheVariants.{E1}
 use Rattle.std.specs.Prelude.{Some}
 use Rattle.trimming.specs.Trim.{trimmed}
@@ -11,7 +11,7 @@ abbrev pub line_room : ℕ
 line_room = 10
 
 -- the line l lies in the buffer, from the range's start to its end
-pub record Lies (l : List ℕ) (s : Range ℕ) (buf : List ℕ) : Type 0 where
+pub record Lies (l : List ℕ) (s : Span) (buf : List ℕ) : Type 0 where
   pub ordered : s.start ≤ s.end
   pub within : s.end ≤ length buf
   pub bytes : take (s.end - s.start) (drop s.start buf) ≡ l

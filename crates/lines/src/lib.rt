@@ -8,8 +8,7 @@ ghost use Rattle.line.specs.Line.{line_of, line_room, Lies};
 ghost use Rattle.lines.specs.Feed.{hand, keep, Holds, Fed, Finished};
 ghost use Rattle.lines.specs.Inside.{Answered, Stepped};
 
-use line::LINE_ROOM;
-use std::ops::Range;
+use line::{LINE_ROOM, Span};
 use terms::WORD_LIMIT;
 
 // The bytes of output so far, and the bytes held of the line that is not ended.
@@ -29,7 +28,7 @@ pub struct Progress {
 }
 
 // The line of the held bytes.
-fn held_line(word: &[u8; WORD_LIMIT], held: usize, line: &mut [u8]) -> Range<usize>
+fn held_line(word: &[u8; WORD_LIMIT], held: usize, line: &mut [u8]) -> Span
     requires { length line.old ≡ line_room }
     ensures { (p : List ℕ) → Holds p (hand held word.now) → Lies (line_of p) result line.new }
 {

@@ -149,11 +149,11 @@ unfolding first_rows
 first_many ed k t h = length-map (take k (visits_of ed t)) (row_at ed t) ∙ length-take-le k (visits_of ed t) h
 
 module _ (ed : Edition) (k : ℕ) (t room : List ℕ) (h : k ≤ length (visits_of ed t)) where
-  pub short : length room / 7 < k → room ≡ left_in (first_rows ed k t) room
-  short l = rw (first_many ed k t h, lt-ltb (length room / 7) k l)
+  pub short : length room / 7 < k → (Err RoomShort ≡ in_room (length room) k) × (room ≡ left_in (first_rows ed k t) room)
+  short l = (rw (lt-ltb (length room / 7) k l), rw (first_many ed k t h, lt-ltb (length room / 7) k l))
 
-  pub enough : k ≤ length room / 7 → {room' : List ℕ} → room' ≡ filled (all_numbers (first_rows ed k t)) room → room' ≡ left_in (first_rows ed k t) room
-  enough l e = rw (first_many ed k t h, le-ltb (length room / 7) k l) e
+  pub enough : k ≤ length room / 7 → {room' : List ℕ} → room' ≡ filled (all_numbers (first_rows ed k t)) room → (Ok k ≡ in_room (length room) k) × (room' ≡ left_in (first_rows ed k t) room)
+  enough l e = (rw (le-ltb (length room / 7) k l), rw (first_many ed k t h, le-ltb (length room / 7) k l) e)
 
 -- ---- what the encoder's answer says
 edition_back : (e : Edition) → edition_if (is_second e) ≡ e

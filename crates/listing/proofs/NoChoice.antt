@@ -5,6 +5,10 @@ use denote.Triple.Clauses.{AtExit}
 use Rattle.basics.proofs.Choice.{OneResult}
 use Rattle.listing.proofs.Unlisted.place.Kinds as place-kinds
 use Rattle.listing.proofs.Unlisted.place.Reads as place
+use Rattle.listing.proofs.UnlistedFromCallRefusal.from.Kinds as unlisted-kinds
+use Rattle.listing.proofs.UnlistedFromCallRefusal.from.Reads as unlisted
+use Rattle.listing.proofs.FaultFromUnlisted.from.Kinds as fault-kinds
+use Rattle.listing.proofs.FaultFromUnlisted.from.Reads as fault
 use Rattle.listing.proofs.explain.Kinds as explain-kinds
 use Rattle.listing.proofs.explain.Reads as explain
 use contract.Lifetimes.{Lfts}
@@ -20,3 +24,10 @@ module _ (κs : Lfts 2) (a : Dens κs explain-kinds.ps) (x y : (res_t explain-ki
 
 pub one_place : OneResult place-kinds.ps place-kinds.r place.Post
 one_place κs a x y s t p q = p ∙ sym q
+
+-- the conversions
+pub one_unlisted : OneResult unlisted-kinds.ps unlisted-kinds.r unlisted.Post
+one_unlisted κs a x y s t p q = p ∙ sym q
+
+pub one_fault : OneResult fault-kinds.ps fault-kinds.r fault.Post
+one_fault κs a x y s t p q = p ∙ sym q

@@ -27,7 +27,7 @@ fn name_bytes(s: &[u8], start: usize, len: usize) -> Result<Field<Span>, Fault>
     requires { start ≤ length s.now }
     ensures { result ≡ bytes_at start (read_bytes name_byte len (drop start s.now)) }
 {
-    let there = len.min(s.len() - start);
+    let there = slices::least(len, s.len() - start);
     let end = start + there;
     match name_fault(&s[start..end]) {
         None => fields::bytes_at(s, start, len),

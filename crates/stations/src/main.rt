@@ -7,6 +7,7 @@ use entry::{Kind, Record};
 use header::{Cursor, Header};
 use std::io::{Read, Stdin, Stdout};
 use std::{fmt, io};
+use terms::Fault;
 
 // What keeps a book from being printed to its end.
 #[derive(Clone, Copy, Debug, PartialEq, Eq)]
@@ -26,52 +27,25 @@ impl fmt::Display for Failure {
     }
 }
 
-// A header's cut: 0 for no limit, else the limit plus 1.
-#[derive(Clone, Copy)]
-struct Cut(u32);
-
-impl fmt::Display for Cut {
-    fn fmt<W: fmt::Write>(&self, f: &mut fmt::Formatter<W>) -> fmt::Result {
-        match header::limit_of(self.0) {
-            None => f.write_str("no limit"),
-            Some(limit) => write!(f, "limit {limit}"),
-        }
-    }
-}
-
-// How many records there are.
-#[derive(Clone, Copy)]
-struct Records(u64);
-
-impl fmt::Display for Records {
-    fn fmt<W: fmt::Write>(&self, f: &mut fmt::Formatter<W>) -> fmt::Result {
-        match self.0 {
-            1 => f.write_str("1 record"),
-            n => write!(f, "{n} records"),
-        }
-    }
-}
-
-// How many of them are closed, if any is.
-#[derive(Clone, Copy)]
-struct Closed(u64);
-
-impl fmt::Display for Closed {
-    fn fmt<W: fmt::Write>(&self, f: &mut fmt::Formatter<W>) -> fmt::Result {
-        match self.0 {
-            0 => Ok(()),
-            n => write!(f, ", {n} closed"),
+// Each piece of a line is a write of its own, here and below, as it always was: a sink that takes only some of them has just those.
+fn put_limit(output: Stdout, cut: u32) -> io::Result<()> {
+    match header::limit_of(cut) {
+        None => output.write_all(b"no limit"),
+        Some(limit) => {
+            output.write_all(b"limit ")?;
+            output.print(limit)
         }
     }
 }
 
 fn put_header(output: Stdout, h: Header) -> io::Result<()> {
-    println!(output;
-        "format {}, edition {}, {}",
-        h.format,
-        h.edition,
-        Cut(h.cut)
-    )
+    output.write_all(b"format ")?;
+    output.print(h.format)?;
+    output.write_all(b", edition ")?;
+    output.print(h.edition)?;
+    output.write_all(b", ")?;
+    put_limit(output, h.cut)?;
+    output.write_all(b"\n")
 }
 
 // The bytes of a name and of the codes go out as they are.
@@ -81,10 +55,35 @@ fn put_record(output: Stdout, s: &[u8], record: Record) -> io::Result<()> {
         output.write_all(b"\t")?;
         output.write_all(slices::bytes_of(s, part))?;
     }
-    output.print(match record.kind {
-        Kind::Live => "\n",
-        Kind::Closed => "\tclosed\n",
-    })
+    let end: &[u8] = match record.kind {
+        Kind::Live => b"\n",
+        Kind::Closed => b"\tclosed\n",
+    };
+    output.write_all(end)
+}
+
+// How many records there are.
+fn put_count(output: Stdout, count: u64) -> io::Result<()> {
+    if count == 1 {
+        return output.write_all(b"1 record");
+    }
+    output.print(count)?;
+    output.write_all(b" records")
+}
+
+// How many of them are closed, if any is, and the line's end.
+fn put_closed(output: Stdout, closed: u64) -> io::Result<()> {
+    if closed == 0 {
+        return output.write_all(b"\n");
+    }
+    output.write_all(b", ")?;
+    output.print(closed)?;
+    output.write_all(b" closed\n")
+}
+
+fn put_fault(output: Stdout, fault: Fault) -> io::Result<()> {
+    output.write_all(b"!")?;
+    output.print(u8::from(fault))
 }
 
 // The records from a cursor on, to the end or to the first fault. Each tells where the next begins, so a cursor goes along.
@@ -100,9 +99,15 @@ fn put_records(output: Stdout, s: &[u8], header: Header, first: Cursor) -> io::R
                 count += 1;
                 closed += u64::from(record.kind == Kind::Closed);
             }
-            Ok(None) => return println!(output; "{}{}", Records(count), Closed(closed)),
+            Ok(None) => {
+                put_count(output, count)?;
+                return put_closed(output, closed);
+            }
             Err(fault) => {
-                return println!(output; "!{} after {}", u8::from(fault), Records(count));
+                put_fault(output, fault)?;
+                output.write_all(b" after ")?;
+                put_count(output, count)?;
+                return output.write_all(b"\n");
             }
         }
     }
@@ -114,7 +119,10 @@ fn put_book(output: Stdout, s: &[u8]) -> io::Result<()> {
             put_header(output, opened.header)?;
             put_records(output, s, opened.header, opened.first)
         }
-        Err(fault) => println!(output; "!{} in the header", u8::from(fault)),
+        Err(fault) => {
+            put_fault(output, fault)?;
+            output.write_all(b" in the header\n")
+        }
     }
 }
 

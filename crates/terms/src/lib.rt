@@ -101,6 +101,10 @@ impl TryFrom<u64> for Edition {
 }
 
 impl fmt::Display for UnknownEdition {
+    ghost use Rattle.std.specs.Prelude.{Some, codes};
+
+    ghost output = { λ _. Some (codes "no edition has this number") };
+
     fn fmt<W: fmt::Write>(&self, f: &mut fmt::Formatter<W>) -> fmt::Result {
         f.write_str("no edition has this number")
     }

@@ -8,14 +8,14 @@ use Rattle.book.proofs.read_in.Goals as goal
 pub returns-in_err-whole : goal.returns-in_err-whole
 returns-in_err-whole c =
     let a = c.args in
-    passed _ c.from_residual.ensures.1 (in_bad (formats a.least) a.room.now a.len _ c.min-there.ensures _ (sym c.in_err-whole.ensures))
+    passed _ c.from_residual.ensures.1 (in_bad (formats a.least) a.room.now a.len _ c.least-there.ensures _ (sym c.in_err-whole.ensures))
 
 pub returns-then-room-len : goal.returns-then-room-len
 returns-then-room-len c =
     let a = c.args in
-    in_short (formats a.least) a.room.now a.len _ c.min-there.ensures _ (sym c.in_ok-whole.ensures) c.if-room-len.true
+    in_short (formats a.least) a.room.now a.len _ c.least-there.ensures _ (sym c.in_ok-whole.ensures) c.if-room-len.true
 
 pub returns : goal.returns
 returns c =
     let a = c.args in
-    in_good (formats a.least) a.room.now a.len _ c.min-there.ensures _ (sym c.in_ok-whole.ensures) c.if-room-len.false
+    in_good (formats a.least) a.room.now a.len _ c.least-there.ensures _ (sym c.in_ok-whole.ensures) c.if-room-len.false

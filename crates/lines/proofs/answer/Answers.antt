@@ -4,14 +4,14 @@ use mathlib.Core.Path.{sym, ap, ◌∙◌}
 use native.Mathlib.Omega.{arith}
 use lib.ListN.{length-drop, length-take}
 use lib.Seq.{sets}
-use Rattle.std.specs.declared.ops.Range.{Range}
+use Rattle.line.specs.declared.Span.{Span}
 use Rattle.line.specs.Line.{line_of, Lies}
 use Rattle.lines.specs.Feed.{Hand, Holds}
 use Rattle.lines.proofs.Hand.{some_held}
 use Rattle.lines.proofs.answer.Goals as goal
 
 -- some line is held, so that the span is within the buffer
-spanned : {h : Hand} {s : Range ℕ} {buf : List ℕ} → ((p : List ℕ) → Holds p h → Lies (line_of p) s buf) → (s.start ≤ s.end) × (s.end ≤ length buf)
+spanned : {h : Hand} {s : Span} {buf : List ℕ} → ((p : List ℕ) → Holds p h → Lies (line_of p) s buf) → (s.start ≤ s.end) × (s.end ≤ length buf)
 spanned {h} e =
     let held = some_held h in
     let l = e held.0 held.1 in

@@ -89,9 +89,6 @@ one_digit (NotAscii at) = omega arith
 one_digit PrimaryShort = omega arith
 one_digit AlternateShort = omega arith
 
-pub told_digit : (r : Refusal) {n : ℕ} → n ≡ number_of_refusal r → n ≤ 4
-told_digit r e = omega (arith, one_digit r)
-
 pub refused_line : (r : Refusal) (p a : List ℕ) → line_by (number_of_refusal r) p a ≡ 33 ∷ (48 + number_of_refusal r) ∷ 10 ∷ []
 refused_line TooLong p a = refl
 refused_line (NotAscii at) p a = refl

@@ -8,7 +8,7 @@ use lib.ListN.{length, set, length-set}
 use lib.Seq.{sets}
 use Rattle.std.specs.Prelude.{Err}
 use Rattle.line.proofs.Place.{lies_in, built}
-use Rattle.line.proofs.Line.{primary, alternate, line_by_lem, coded, told_digit, refused_line}
+use Rattle.line.proofs.Line.{primary, alternate, line_by_lem, coded, one_digit, refused_line}
 use Rattle.line.proofs.Codes.{mid, room, mid_long, codes}
 use Rattle.line.proofs.build_line.Goals as goal
 
@@ -71,7 +71,7 @@ overflow_add-result c =
 
 pub refuse-requires : goal.refuse-requires
 refuse-requires c =
-    (mid_long c.args.line.now c.encode.new.alternate c.requires c.encode.auto.alternate, told_digit _ c.from.ensures)
+    (mid_long c.args.line.now c.encode.new.alternate c.requires c.encode.auto.alternate, omega (arith, c.from.ensures, one_digit c.in-Err.refusal))
 
 pub returns-in-Ok : goal.returns-in-Ok
 returns-in-Ok c =
